@@ -7,7 +7,7 @@ use Prim.Native.Nat.{ℕ, _+_}
 use lib.ListN.{length}
 use lib.Dec.{eqb, ltb, leb, T}
 use Rattle.sizechange.specs.Graph.{nth}
-use Rattle.lang.specs.Program.{Tree, leaf, node, Expr, var, a-leaf, a-node, parts, bind, call, Exprs, nil, cons, Fun, Prog, count}
+use Rattle.lang.specs.Program.{Tree, leaf, node, Expr, var, a-leaf, a-node, parts, bind, call, Exprs, nil, cons, Fun, Prog, count, max-args, max-functions, max-bytes}
 
 -- an expression in prefix order
 abbrev mutual
@@ -52,8 +52,8 @@ abbrev mutual
 -- functions of at most 8 arguments whose bodies are well-formed in p
 abbrev pub all-ok : Prog → List Fun → Bool
 all-ok p [] = true
-all-ok p (g ∷ gs) = leb (g .args) 8 && (ok p (g .args) (g .body) && all-ok p gs)
+all-ok p (g ∷ gs) = leb (g .args) max-args && (ok p (g .args) (g .body) && all-ok p gs)
 -- the bytes s are the program p: at most 4,096 bytes and 64 functions
 pub record Program (s : List ℕ) (p : Prog) : Type 0 where
   pub bytes : bytesP p ≡ s
-  pub fine : T (leb (length s) 4096 && (leb (length p) 64 && all-ok p p))
+  pub fine : T (leb (length s) max-bytes && (leb (length p) max-functions && all-ok p p))

@@ -3,4 +3,6 @@ pub mod Program
 pub mod Eval
 pub mod Steps
 pub mod Bytes
+pub mod Reads
 pub mod Theorems
+pub mod Ackermann

@@ -31,3 +31,11 @@ Prog = List Fun
 abbrev pub count : Exprs → ℕ
 count nil = 0
 count (cons e es) = 1 + count es
+
+-- the limits of a program
+abbrev pub max-args : ℕ
+max-args = 8
+abbrev pub max-functions : ℕ
+max-functions = 64
+abbrev pub max-bytes : ℕ
+max-bytes = 4096
