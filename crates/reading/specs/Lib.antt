@@ -1,0 +1,3 @@
+-- What reading a script leaves behind.
+pub mod Heads
+pub mod Ends
