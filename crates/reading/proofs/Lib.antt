@@ -1,2 +1,3 @@
-pub mod Heads
+pub mod Finding
+pub mod Heading
 pub mod Passing

@@ -13,7 +13,7 @@ use Rattle.std.specs.declared.option.Option.the-variants.{Some, None}
 use Rattle.lang.specs.Program.{Expr, Exprs, nil, cons}
 use Rattle.lang.specs.Reads.{Reads, ReadsAll, r-nil, r-cons}
 use Rattle.lang.proofs.Reading.{reads-one}
-use Rattle.reading.proofs.Heads.{starting}
+use Rattle.reading.proofs.Heading.{starting}
 use Rattle.reading.specs.Ends.{EndOf, EndOfAll, EndWord, EndsFrom}
 
 -- the i expressions from j on end at k

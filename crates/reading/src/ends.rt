@@ -27,7 +27,7 @@ pub fn head_at(bytes: &[u8], at: usize) -> Option<Head>
 }
 
 // Where the expression at a place ends, by the table, which is right from there on.
-fn known_end(bytes: &[u8], ends: &[u32], at: usize) -> Option<usize>
+pub fn known_end(bytes: &[u8], ends: &[u32], at: usize) -> Option<usize>
     requires within { ⌜ length (now bytes) ≤ length (now ends) ⌝ }
     requires known { ⌜ EndsFrom (now bytes) (now ends) at ⌝ }
     ensures { λ r. ⌜ EndOf (now (bytes .entry)) at r ⌝ }

@@ -1,2 +1,3 @@
-pub mod head;
 mod ends;
+mod functions;
+pub mod head;

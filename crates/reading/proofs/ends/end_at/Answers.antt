@@ -1,5 +1,5 @@
 use native.Mathlib.Omega.{arith}
-use Rattle.reading.proofs.Heads.{end-by, end-of-none}
+use Rattle.reading.proofs.Heading.{end-by, end-of-none}
 use Rattle.reading.proofs.ends.end_at.Needs as need
 
 pub returns-then-n-le-MAX-ARGS : need.returns-then-n-le-MAX-ARGS

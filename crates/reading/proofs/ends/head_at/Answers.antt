@@ -2,7 +2,7 @@
 use native.Mathlib.Omega.{arith}
 use Prim.Native.Nat.{_≤_, _<_}
 use lib.ListN.{length}
-use Rattle.reading.proofs.Heads.{starting, Starting, bytes1, bytes2, bytes3}
+use Rattle.reading.proofs.Heading.{starting, Starting, bytes1, bytes2, bytes3}
 use Rattle.reading.proofs.ends.head_at.Needs as need
 
 pub returns-then-at-bytes : need.returns-then-at-bytes
