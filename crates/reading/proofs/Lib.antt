@@ -1,3 +1,4 @@
 pub mod Finding
 pub mod Heading
+pub mod Needing
 pub mod Passing

@@ -1,4 +1,6 @@
 -- What reading a script leaves behind.
-pub mod Heads
 pub mod Ends
 pub mod Functions
+pub mod Heads
+pub mod Needs
+pub mod Tables
