@@ -26,8 +26,8 @@ pub record Passed (s : List ℕ) (j i k : ℕ) : Type 0 where
 pub passed-none : (s : List ℕ) (j : ℕ) → j ≤ length s → Passed s j 0 j
 passed-none s j l = record { within = l; forward = omega arith; onto = λ n es x h. (es, rw zero-add h); back = λ n es x h. (es, rw zero-add at h) }
 
-pub first-of : {n : ℕ} {xs x : List ℕ} {es : Exprs} → ReadsAll (suc n) xs es x → (e : Expr) × (fs : Exprs) × (ys : List ℕ) × Reads xs e ys × ReadsAll n ys fs x
-first-of (r-cons {ys = ys} {e = e} {es = es} h k) = (e, es, ys, h, k)
+pub first-of : {n : ℕ} {xs x : List ℕ} {es : Exprs} → ReadsAll (suc n) xs es x → (e : Expr) × (fs : Exprs) × (ys : List ℕ) × Reads xs e ys × ReadsAll n ys fs x × (es ≡ cons e fs)
+first-of (r-cons {ys = ys} {e = e} {es = es} h k) = (e, es, ys, h, k, refl)
 
 pub passed-more : (s : List ℕ) (j i k w : ℕ) → Passed s j i k → EndOf s k (Some w) → Passed s j (i + 1) w
 passed-more s j i k w p h = record { within = h .0; forward = let a = h .1 in let b = p .forward in omega arith; onto = onto; back = back }

@@ -1,3 +1,4 @@
 mod ends;
 mod functions;
 pub mod head;
+mod needs;
