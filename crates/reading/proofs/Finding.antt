@@ -10,6 +10,7 @@ use lib.Dec.{T, leb→le}
 use Rattle.std.proofs.shelf.Lists.{drop-all, drop-more, getD-set-same, getD-set-other}
 use Rattle.std.proofs.shelf.Tests.{cases-eq}
 use Rattle.sizechange.specs.Graph.{nth}
+use Rattle.sizechange.proofs.Lists.{nth-below}
 use Rattle.std.specs.declared.option.Option.{Option}
 use Rattle.std.specs.declared.option.Option.the-variants.{Some, None}
 use Rattle.lang.specs.Program.{Expr, Fun, Prog, max-args, max-functions}
@@ -37,11 +38,6 @@ nth-push [] x zero g e = inr (refl, cc)
 nth-push [] x (suc f) g e = let z : _≡_ {A = ℕ} 0 1 = cc in absurd (omega arith)
 nth-push (y ∷ fs) x zero g e = inl e
 nth-push (y ∷ fs) x (suc f) g e = ⊎-elim (λ h. inl h) (λ h. inr (ap suc (h .0), h .1)) (nth-push fs x f g e)
-pub nth-below : {A : Type 0} (xs : List A) (i : ℕ) (x : A) → nth xs i ≡ opt.some x → i < length xs
-nth-below [] i x e = let z : _≡_ {A = ℕ} 0 1 = cc in absurd (omega arith)
-nth-below (y ∷ xs) zero x e = omega arith
-nth-below (y ∷ xs) (suc i) x e = let h = nth-below xs i x e in omega arith
-
 -- bytes that are functions begin with a function
 pub first-function : {x : ℕ} {xs : List ℕ} {gs : List Fun} → Functions (x ∷ xs) gs → (x ≤ max-args) × (e : Expr) × (ys : List ℕ) × (hs : List Fun) × Reads xs e ys × Functions ys hs × (gs ≡ record { args = x; body = e } ∷ hs)
 first-function (f-more {ys = ys} {e = e} {gs = gs} l h k) = (l, e, ys, gs, h, k, refl)
@@ -71,7 +67,7 @@ before-more s fs k starts n e b l m w h a = record { within = h .0; number = num
     there = record { within = l; args-there = refl; rest = drop e s; body-there = h .3 }
     starting : Starts s (fs ++ g ∷ []) (set starts n k)
     starting f x q = ⊎-elim
-      (λ r. let j = nth-below fs f x r in let i = b .number in let ne : f ≡ n → ⊥ = λ z. omega arith in rw (getD-set-other starts n f k 0 ne) (b .starting f x r))
+      (λ r. let j = nth-below fs f r in let i = b .number in let ne : f ≡ n → ⊥ = λ z. omega arith in rw (getD-set-other starts n f k 0 ne) (b .starting f x r))
       (λ r. let i = b .number in let z : f ≡ n = r .0 ∙ i in subst (λ (y : Fun). StandsAt s y (getD (set starts n k) f 0)) (r .1) (rw z (rw (getD-set-same starts n k 0 w) there)))
       (nth-push fs g f x q)
 

@@ -2,3 +2,4 @@ pub mod Finding
 pub mod Heading
 pub mod Needing
 pub mod Passing
+pub mod Places
