@@ -12,11 +12,11 @@ one-zero-body d q = e-parts2 leaf leaf refl (e-parts1 refl (e-tail ack (a-cons (
 
 pub worked : Worked
 worked = record {
-    program = record { bytes = refl; fine = tt };
-    steps = refl;
-    zero-zero = record { fun = ack; is = refl; fits = refl; does = e-parts1 refl (e-node e-leaf (e-var refl)) };
-    zero-zero-full = record { fun = ack; is = refl; fits = refl; does = e-parts1 refl (e-node e-leaf (e-var refl)) };
-    one-zero = record { fun = ack; is = refl; fits = refl; does = one-zero-body 0 0 };
-    one-one-deep = record { fun = ack; is = refl; fits = refl; does = e-parts2 leaf leaf refl (e-parts2 leaf leaf refl (e-call1 (a-rest (e-var refl) (a-bad (e-call0 (a-cons (e-var refl) (a-cons (e-var refl) a-nil))) is-deep)))) };
-    one-one = record { fun = ack; is = refl; fits = refl; does = e-parts2 leaf leaf refl (e-parts2 leaf leaf refl (e-tail ack (a-cons (e-var refl) (a-cons (e-call ack (a-cons (e-var refl) (a-cons (e-var refl) a-nil)) refl refl (one-zero-body 0 1)) a-nil)) refl refl (e-parts1 refl (e-node e-leaf (e-var refl))))) }
-  }
+  program = record { bytes = refl; fine = tt };
+  steps = refl;
+  zero-zero = record { fun = ack; is = refl; fits = refl; does = e-parts1 refl (e-node e-leaf (e-var refl)) };
+  zero-zero-full = record { fun = ack; is = refl; fits = refl; does = e-parts1 refl (e-node e-leaf (e-var refl)) };
+  one-zero = record { fun = ack; is = refl; fits = refl; does = one-zero-body 0 0 };
+  one-one-deep = record { fun = ack; is = refl; fits = refl; does = e-parts2 leaf leaf refl (e-parts2 leaf leaf refl (e-call1 (a-rest (e-var refl) (a-bad (e-call0 (a-cons (e-var refl) (a-cons (e-var refl) a-nil))) is-deep)))) };
+  one-one = record { fun = ack; is = refl; fits = refl; does = e-parts2 leaf leaf refl (e-parts2 leaf leaf refl (e-tail ack (a-cons (e-var refl) (a-cons (e-call ack (a-cons (e-var refl) (a-cons (e-var refl) a-nil)) refl refl (one-zero-body 0 1)) a-nil)) refl refl (e-parts1 refl (e-node e-leaf (e-var refl))))) };
+}

@@ -1,2 +1,9 @@
 pub mod Cases
+pub mod Fine
+pub mod Lists
+pub mod Outcomes
 pub mod Reading
+pub mod Rules
+pub mod Theorems
+pub mod Values
+pub mod Well

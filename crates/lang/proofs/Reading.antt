@@ -13,13 +13,7 @@ use Rattle.lang.specs.Program.{Tree, leaf, node, Expr, var, a-leaf, a-node, pa
 use Rattle.lang.specs.Bytes.{bytesE, bytesEs, bytesP, bytesT, bytesTs, takes, ok, oks, all-ok, Program}
 use Rattle.lang.specs.Reads.{Reads, ReadsAll, r-var, r-leaf, r-node, r-parts, r-bind, r-call, r-nil, r-cons}
 use Rattle.lang.specs.Theorems.{One-program, One-list}
-
-pub both : (a b : Bool) → T (a && b) → T a × T b
-both true b h = (tt, h)
-both false b h = elim h [ ]
-pub from-both : (a b : Bool) → T a → T b → T (a && b)
-from-both true b x y = y
-from-both false b x y = elim x [ ]
+use Rattle.lang.proofs.Lists.{both}
 
 -- reading is unambiguous
 mutual
@@ -39,6 +33,7 @@ mutual
       let j = reads-one b (subst (λ u. Reads u v zs) (sym (i .1)) d) in
       (cc, j .1)
   reads-one (r-call h a) (r-call k c) = let i = reads-all-one a c in (cc, i .1)
+
   pub reads-all-one : {n : ℕ} {xs ys zs : List ℕ} {es ds : Exprs} → ReadsAll n xs es ys → ReadsAll n xs ds zs → (es ≡ ds) × (ys ≡ zs)
   reads-all-one r-nil r-nil = (refl, refl)
   reads-all-one (r-cons a b) (r-cons {k = n} {zs = zs} {es = v} c d) =
@@ -61,6 +56,7 @@ mutual
   reads-ok p h n (parts i a b) x o = let o1 = both (ltb i n) (ok p n a && ok p (n + 2) b) o in let o2 = both (ok p n a) (ok p (n + 2) b) (o1 .1) in rw append-assoc (r-parts (reads-ok p h n a (bytesE b ++ x) (o2 .0)) (reads-ok p h (n + 2) b x (o2 .1)))
   reads-ok p h n (bind a b) x o = let oo = both (ok p n a) (ok p (n + 1) b) o in rw append-assoc (r-bind (reads-ok p h n a (bytesE b ++ x) (oo .0)) (reads-ok p h (n + 1) b x (oo .1)))
   reads-ok p h n (call f es) x o = let oo = both (takes (nth p f) (count es)) (oks p n es) o in r-call (few-args p p f (count es) h (oo .0)) (reads-all-ok p h n es x (oo .1))
+
   pub reads-all-ok : (p : Prog) → T (all-ok p p) → (n : ℕ) (es : Exprs) (x : List ℕ) → T (oks p n es) → ReadsAll (count es) (bytesEs es ++ x) es x
   reads-all-ok p h n nil x o = r-nil
   reads-all-ok p h n (cons e es) x o = let oo = both (ok p n e) (oks p n es) o in rw (one-add, append-assoc) (r-cons (reads-ok p h n e (bytesEs es ++ x) (oo .0)) (reads-all-ok p h n es x (oo .1)))
@@ -74,6 +70,7 @@ mutual
   reads-bytes (r-parts {ys = ys} {zs = zs} {a = a} {b = b} h k) = let i = reads-bytes h in let j = reads-bytes k in rw append-assoc cc
   reads-bytes (r-bind {ys = ys} {zs = zs} {a = a} {b = b} h k) = let i = reads-bytes h in let j = reads-bytes k in rw append-assoc cc
   reads-bytes (r-call l h) = let i = reads-all-bytes h in cc (i .0, i .1)
+
   pub reads-all-bytes : {n : ℕ} {xs ys : List ℕ} {es : Exprs} → ReadsAll n xs es ys → (bytesEs es ++ ys ≡ xs) × (count es ≡ n)
   reads-all-bytes r-nil = (refl, refl)
   reads-all-bytes (r-cons h k) = let i = reads-bytes h in let j = reads-all-bytes k in (rw append-assoc (cc (j .0)), rw one-add (ap suc (j .1)))
@@ -114,6 +111,7 @@ tree-one (node t s) (node u v) x y eq =
     let a = tree-one t u (bytesT s ++ x) (bytesT v ++ y) (sym (append-assoc (bytesT t) (bytesT s) x) ∙ e ∙ append-assoc (bytesT u) (bytesT v) y) in
     let b = tree-one s v x y (a .1) in
     (cc (a .0, b .0), b .1)
+
 pub one-list : One-list
 one-list [] [] eq = refl
 one-list [] (leaf ∷ us) eq = let z : _≡_ {A = ℕ} 0 1 = cc in absurd (omega arith)

@@ -11,16 +11,22 @@ use Rattle.lang.specs.Bytes.{Program}
 
 abbrev pub ack : Fun
 ack = record { args = 2; body = parts 0 (a-node a-leaf (var 1)) (parts 3 (call 0 (cons (var 0) (cons (a-node a-leaf a-leaf) nil))) (call 0 (cons (var 2) (cons (call 0 (cons (var 4) (cons (var 0) nil))) nil)))) }
+
 abbrev pub ack-program : Prog
 ack-program = ack ∷ []
+
 abbrev pub ack-bytes : List ℕ
 ack-bytes = 2 ∷ 3 ∷ 0 ∷ 2 ∷ 1 ∷ 0 ∷ 1 ∷ 3 ∷ 3 ∷ 5 ∷ 0 ∷ 2 ∷ 0 ∷ 0 ∷ 2 ∷ 1 ∷ 1 ∷ 5 ∷ 0 ∷ 2 ∷ 0 ∷ 2 ∷ 5 ∷ 0 ∷ 2 ∷ 0 ∷ 4 ∷ 0 ∷ 0 ∷ []
+
 abbrev pub n0 : Tree
 n0 = leaf
+
 abbrev pub n1 : Tree
 n1 = node leaf n0
+
 abbrev pub n2 : Tree
 n2 = node leaf n1
+
 abbrev pub n3 : Tree
 n3 = node leaf n2
 

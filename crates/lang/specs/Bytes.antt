@@ -18,17 +18,21 @@ abbrev mutual
   bytesE (parts i a b) = 3 ∷ i ∷ (bytesE a ++ bytesE b)
   bytesE (bind a b) = 4 ∷ (bytesE a ++ bytesE b)
   bytesE (call f es) = 5 ∷ f ∷ count es ∷ bytesEs es
+
   pub bytesEs : Exprs → List ℕ
   bytesEs nil = []
   bytesEs (cons e es) = bytesE e ++ bytesEs es
+
 -- functions one after the other, each its number of arguments and its body
 abbrev pub bytesP : Prog → List ℕ
 bytesP [] = []
 bytesP (g ∷ gs) = g .args ∷ (bytesE (g .body) ++ bytesP gs)
+
 -- a leaf is 0; a node is 1 and its two trees
 abbrev pub bytesT : Tree → List ℕ
 bytesT leaf = 0 ∷ []
 bytesT (node t u) = 1 ∷ (bytesT t ++ bytesT u)
+
 abbrev pub bytesTs : List Tree → List ℕ
 bytesTs [] = []
 bytesTs (t ∷ ts) = bytesT t ++ bytesTs ts
@@ -37,6 +41,7 @@ bytesTs (t ∷ ts) = bytesT t ++ bytesTs ts
 abbrev pub takes : Option Fun → ℕ → Bool
 takes none n = false
 takes (some g) n = eqb (g .args) n
+
 -- with n variables in view, every variable is in view, and every call is of a function that is there with as many arguments as it takes
 abbrev mutual
   pub ok : Prog → ℕ → Expr → Bool
@@ -46,13 +51,16 @@ abbrev mutual
   ok p n (parts i a b) = ltb i n && (ok p n a && ok p (n + 2) b)
   ok p n (bind a b) = ok p n a && ok p (n + 1) b
   ok p n (call f es) = takes (nth p f) (count es) && oks p n es
+
   pub oks : Prog → ℕ → Exprs → Bool
   oks p n nil = true
   oks p n (cons e es) = ok p n e && oks p n es
+
 -- functions of at most 8 arguments whose bodies are well-formed in p
 abbrev pub all-ok : Prog → List Fun → Bool
 all-ok p [] = true
 all-ok p (g ∷ gs) = leb (g .args) max-args && (ok p (g .args) (g .body) && all-ok p gs)
+
 -- the bytes s are the program p: at most 4,096 bytes and 64 functions
 pub record Program (s : List ℕ) (p : Prog) : Type 0 where
   pub bytes : bytesP p ≡ s

@@ -12,13 +12,16 @@ pub data Outcome : Type 0 where
   val : Tree → ℕ → Outcome
   full : Outcome
   deep : Outcome
+
 pub data Outcomes : Type 0 where
   vals : List Tree → ℕ → Outcomes
   no-vals : Outcome → Outcomes
+
 -- an outcome that is no value
 pub data Bad : Outcome → Type 0 where
   is-full : Bad full
   is-deep : Bad deep
+
 -- a node takes one of the room, when both its parts are there
 abbrev pub made : Tree → ℕ → Outcome
 made t zero = full
@@ -46,6 +49,7 @@ mutual
     e-call : {d r q f : ℕ} {ρ : List Tree} {es : Exprs} {ts : List Tree} {o : Outcome} (g : Fun) → EvalAll p (suc d) ρ es r (vals ts q) → nth p f ≡ some g → length ts ≡ g .args → Eval p tail d ts (g .body) q o → Eval p inner (suc d) ρ (call f es) r o
     e-call0 : {r q f : ℕ} {ρ : List Tree} {es : Exprs} {ts : List Tree} → EvalAll p 0 ρ es r (vals ts q) → Eval p inner 0 ρ (call f es) r deep
     e-call1 : {m : Mode} {d r f : ℕ} {ρ : List Tree} {es : Exprs} {o : Outcome} → EvalAll p d ρ es r (no-vals o) → Eval p m d ρ (call f es) r o
+
   pub data EvalAll (p : Prog) : ℕ → List Tree → Exprs → ℕ → Outcomes → Type 0 where
     a-nil : {d r : ℕ} {ρ : List Tree} → EvalAll p d ρ nil r (vals [] r)
     a-cons : {d r q s : ℕ} {ρ : List Tree} {e : Expr} {es : Exprs} {t : Tree} {ts : List Tree} → Eval p inner d ρ e r (val t q) → EvalAll p d ρ es q (vals ts s) → EvalAll p d ρ (cons e es) r (vals (t ∷ ts) s)

@@ -17,13 +17,16 @@ mutual
     parts : ℕ → Expr → Expr → Expr
     bind : Expr → Expr → Expr
     call : ℕ → Exprs → Expr
+
   pub data Exprs : Type 0 where
     nil : Exprs
     cons : Expr → Exprs → Exprs
+
 -- a function; at the start of its body variable 0 is the first argument, 1 the second, and so on
 pub record Fun : Type 0 where
   pub args : ℕ
   pub body : Expr
+
 -- functions are numbered from 0
 abbrev pub Prog : Type 0
 Prog = List Fun
@@ -35,7 +38,9 @@ count (cons e es) = 1 + count es
 -- the limits of a program
 abbrev pub max-args : ℕ
 max-args = 8
+
 abbrev pub max-functions : ℕ
 max-functions = 64
+
 abbrev pub max-bytes : ℕ
 max-bytes = 4096

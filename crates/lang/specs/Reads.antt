@@ -12,6 +12,7 @@ mutual
     r-parts : {i : ℕ} {xs ys zs : List ℕ} {a b : Expr} → Reads xs a ys → Reads ys b zs → Reads (3 ∷ i ∷ xs) (parts i a b) zs
     r-bind : {xs ys zs : List ℕ} {a b : Expr} → Reads xs a ys → Reads ys b zs → Reads (4 ∷ xs) (bind a b) zs
     r-call : {f k : ℕ} {xs zs : List ℕ} {es : Exprs} → k ≤ max-args → ReadsAll k xs es zs → Reads (5 ∷ f ∷ k ∷ xs) (call f es) zs
+
   pub data ReadsAll : ℕ → List ℕ → Exprs → List ℕ → Type 0 where
     r-nil : {xs : List ℕ} → ReadsAll zero xs nil xs
     r-cons : {k : ℕ} {xs ys zs : List ℕ} {e : Expr} {es : Exprs} → Reads xs e ys → ReadsAll k ys es zs → ReadsAll (suc k) xs (cons e es) zs

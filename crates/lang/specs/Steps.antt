@@ -16,10 +16,12 @@ abbrev pub known : List (Option From) → ℕ → Option From
 known [] i = none
 known (k ∷ ks) zero = k
 known (k ∷ ks) (suc i) = known ks i
+
 -- a part of an argument, or of a part of it, is a part of the argument
 abbrev pub part : Option From → Option From
 part none = none
 part (some k) = some (record { arg = k .arg; how = 2 })
+
 -- a bound variable is known if what it is bound to is a variable that is
 abbrev pub origin : List (Option From) → Expr → Option From
 origin ks (var i) = known ks i
@@ -28,13 +30,16 @@ origin ks (a-node a b) = none
 origin ks (parts i a b) = none
 origin ks (bind a b) = none
 origin ks (call f es) = none
+
 -- the arcs to the arguments given, the first of which is argument j
 abbrev pub arc : ℕ → Option From → List Arc
 arc j none = []
 arc j (some k) = record { from = k .arg; to = j; how = k .how } ∷ []
+
 abbrev pub arcs : List (Option From) → ℕ → Exprs → List Arc
 arcs ks j nil = []
 arcs ks j (cons e es) = arc j (origin ks e) ++ arcs ks (j + 1) es
+
 -- the steps in an expression of function f, in the order of its bytes
 abbrev mutual
   pub steps : ℕ → List (Option From) → Expr → List Step
@@ -44,13 +49,16 @@ abbrev mutual
   steps f ks (parts i a b) = steps f ks a ++ steps f (part (known ks i) ∷ part (known ks i) ∷ ks) b
   steps f ks (bind a b) = steps f ks a ++ steps f (origin ks a ∷ ks) b
   steps f ks (call g es) = record { caller = f; callee = g; arcs = arcs ks 0 es } ∷ steps-all f ks es
+
   pub steps-all : ℕ → List (Option From) → Exprs → List Step
   steps-all f ks nil = []
   steps-all f ks (cons e es) = steps f ks e ++ steps-all f ks es
+
 -- at the start of a body each argument is known to be itself
 abbrev pub given : ℕ → ℕ → List (Option From)
 given i zero = []
 given i (suc n) = some (record { arg = i; how = 1 }) ∷ given (i + 1) n
+
 -- the steps of functions, the first of which is function f
 abbrev pub all-steps : ℕ → List Fun → List Step
 all-steps f [] = []
@@ -59,7 +67,9 @@ all-steps f (g ∷ gs) = steps f (given 0 (g .args)) (g .body) ++ all-steps (f +
 -- the call graph of a program; the reason; the list of all its ways
 abbrev pub call-graph : Prog → List Step
 call-graph p = all-steps 0 p
+
 abbrev pub Ends-for-a-reason : Prog → Type 0
 Ends-for-a-reason p = Has-reason (call-graph p)
+
 abbrev pub Ways-of : Prog → List Way1 → Type 0
 Ways-of p ws = Ways (call-graph p) ws

@@ -38,6 +38,7 @@ nth-push [] x zero g e = inr (refl, cc)
 nth-push [] x (suc f) g e = let z : _≡_ {A = ℕ} 0 1 = cc in absurd (omega arith)
 nth-push (y ∷ fs) x zero g e = inl e
 nth-push (y ∷ fs) x (suc f) g e = ⊎-elim (λ h. inl h) (λ h. inr (ap suc (h .0), h .1)) (nth-push fs x f g e)
+
 -- bytes that are functions begin with a function
 pub first-function : {x : ℕ} {xs : List ℕ} {gs : List Fun} → Functions (x ∷ xs) gs → (x ≤ max-args) × (e : Expr) × (ys : List ℕ) × (hs : List Fun) × Reads xs e ys × Functions ys hs × (gs ≡ record { args = x; body = e } ∷ hs)
 first-function (f-more {ys = ys} {e = e} {gs = gs} l h k) = (l, e, ys, gs, h, k, refl)
@@ -52,10 +53,13 @@ before-more s fs k starts n e b l m w h a = record { within = h .0; number = num
   where
     g : Fun
     g = record { args = getD s k 0; body = h .2 }
+
     number : length (fs ++ g ∷ []) ≡ n + 1
     number = let q = length-append fs (g ∷ []) in let r = b .number in omega arith
+
     onto : (gs : List Fun) → Functions (drop e s) gs → Functions s ((fs ++ g ∷ []) ++ gs)
     onto gs q = rw append-assoc (b .onto (g ∷ gs) (subst (λ (xs : List ℕ). Functions xs (g ∷ gs)) (sym (at-place s k l)) (f-more a (h .3) q)))
+
     back : (gs : List Fun) → Functions s gs → (hs : List Fun) × (gs ≡ (fs ++ g ∷ []) ++ hs) × Functions (drop e s) hs
     back gs q =
         let r = b .back gs q in
@@ -63,23 +67,27 @@ before-more s fs k starts n e b l m w h a = record { within = h .0; number = num
         let o = reads-one (f .4) (h .3) in
         let z : record { args = getD s k 0; body = f .1 } ≡ g = λ i. record { args = getD s k 0; body = o .0 i } in
         (f .3, r .1 ∙ (ap (λ (x : List Fun). fs ++ x) (f .6 ∙ ap (λ (y : Fun). y ∷ f .3) z) ∙ sym (append-assoc fs (g ∷ []) (f .3))), subst (λ (xs : List ℕ). Functions xs (f .3)) (o .1) (f .5))
+
     there : StandsAt s g k
     there = record { within = l; args-there = refl; rest = drop e s; body-there = h .3 }
+
     starting : Starts s (fs ++ g ∷ []) (set starts n k)
     starting f x q = ⊎-elim
-      (λ r. let j = nth-below fs f r in let i = b .number in let ne : f ≡ n → ⊥ = λ z. omega arith in rw (getD-set-other starts n f k 0 ne) (b .starting f x r))
-      (λ r. let i = b .number in let z : f ≡ n = r .0 ∙ i in subst (λ (y : Fun). StandsAt s y (getD (set starts n k) f 0)) (r .1) (rw z (rw (getD-set-same starts n k 0 w) there)))
-      (nth-push fs g f x q)
+        (λ r. let j = nth-below fs f r in let i = b .number in let ne : f ≡ n → ⊥ = λ z. omega arith in rw (getD-set-other starts n f k 0 ne) (b .starting f x r))
+        (λ r. let i = b .number in let z : f ≡ n = r .0 ∙ i in subst (λ (y : Fun). StandsAt s y (getD (set starts n k) f 0)) (r .1) (rw z (rw (getD-set-same starts n k 0 w) there)))
+        (nth-push fs g f x q)
 
 -- at the end all are found
 pub before-all : (s : List ℕ) (fs : List Fun) (k : ℕ) (starts : List ℕ) (n : ℕ) → Before s fs k starts n → length s ≤ k → Found s fs starts n
 before-all s fs k starts n b l = record { functions = rw append-nil at (b .onto [] (rw (drop-all k s l) f-none)); number = b .number; few = b .few; starting = b .starting }
+
 -- where no function stands, the bytes are not functions
 pub before-no : (s : List ℕ) (fs : List Fun) (k : ℕ) (starts : List ℕ) (n : ℕ) → Before s fs k starts n → k < length s → (getD s k 0 ≤ max-args → EndOf s (k + 1) None) → (p : Prog) → Functions s p → ⊥
 before-no s fs k starts n b l h p q =
     let r = b .back p q in
     let f = first-function (subst (λ (xs : List ℕ). Functions xs (r .0)) (at-place s k l) (r .2)) in
     h (f .0) (f .1) (f .2) (f .4)
+
 pub before-many : (s : List ℕ) (fs : List Fun) (k : ℕ) (starts : List ℕ) (n : ℕ) → Before s fs k starts n → k < length s → max-functions ≤ n → (p : Prog) → Functions s p → max-functions < length p
 before-many s fs k starts n b l m p q =
     let r = b .back p q in
@@ -94,11 +102,14 @@ before-many s fs k starts n b l m p q =
 pub functions-ok : (p : Prog) → T (all-ok p p) → (gs : List Fun) → T (all-ok p gs) → Functions (bytesP gs) gs
 functions-ok p h [] k = f-none
 functions-ok p h (g ∷ gs) k = let b = body-ok p g gs k in f-more (leb→le (g .args) max-args (b .0)) (reads-ok p h (g .args) (g .body) (bytesP gs) (b .1)) (functions-ok p h gs (b .2))
+
 pub functions-bytes : {s : List ℕ} {gs : List Fun} → Functions s gs → bytesP gs ≡ s
 functions-bytes f-none = refl
 functions-bytes (f-more {n = n} {e = e} {gs = gs} l h k) = let i = functions-bytes k in let j = reads-bytes h in ap (λ (xs : List ℕ). n ∷ xs) (ap (λ (ys : List ℕ). bytesE e ++ ys) i ∙ j)
+
 pub program-functions : (s : List ℕ) (p : Prog) → Program s p → Functions s p
 program-functions s p h = let a = fine-parts s p h .2 in subst (λ (xs : List ℕ). Functions xs p) (h .bytes) (functions-ok p a p a)
+
 pub functions-one : {s : List ℕ} {gs hs : List Fun} → Functions s gs → Functions s hs → gs ≡ hs
 functions-one f-none f-none = refl
 functions-one (f-more {n = n} l h k) (f-more {gs = gs} m i j) = let o = reads-one h i in let r = functions-one k (subst (λ (ys : List ℕ). Functions ys gs) (sym (o .1)) j) in let z = o .0 in cc

@@ -52,6 +52,7 @@ goes-all (g-node {a = a} {b = b} h) = (lit≤ tt, cons a (cons b nil), h)
 goes-all (g-parts {a = a} {b = b} h) = (lit≤ tt, cons a (cons b nil), h)
 goes-all (g-bind {a = a} {b = b} h) = (lit≤ tt, cons a (cons b nil), h)
 goes-all (g-call {es = es} l h) = (l, es, h)
+
 pub all-goes : (h : Head) {xs zs : List ℕ} {es : Exprs} → arityOf h ≤ max-args → ReadsAll (arityOf h) xs es zs → (e : Expr) × Goes h xs e zs
 all-goes (Var i) l r-nil = (var i, g-var)
 all-goes Leaf l r-nil = (a-leaf, g-leaf)
@@ -62,6 +63,7 @@ all-goes (Call f n) {es = es} l h = (call f es, g-call l h)
 
 pub goes-at : (s : List ℕ) (at : ℕ) (h : Head) → HeadAt s at (Some h) → {e : Expr} {x : List ℕ} → Reads (drop at s) e x → Goes h (drop (at + widthOf h) s) e x
 goes-at s at h a {e} {x} r = goes h (drop (at + widthOf h) s) (subst (λ (xs : List ℕ). Reads xs e x) (a .1) r)
+
 pub wide : (h : Head) → 1 ≤ widthOf h
 wide (Var i) = lit≤ tt
 wide Leaf = lit≤ tt
@@ -74,8 +76,10 @@ wide (Call f n) = lit≤ tt
 pub end-of-head : (s : List ℕ) (at : ℕ) (h : Head) → HeadAt s at (Some h) → arityOf h ≤ max-args → (r : Option ℕ) → EndOfAll s (arityOf h) (at + widthOf h) r → EndOf s at r
 end-of-head s at h a l (Some k) q = let w = wide h in let f = q .1 in let g = all-goes h l (q .3) in (q .0, omega arith, g .0, subst (λ (xs : List ℕ). Reads xs (g .0) (drop k s)) (sym (a .1)) (came (g .1)))
 end-of-head s at h a l None q = λ e x r. let g = goes-all (goes-at s at h a r) in q (g .1) x (g .2)
+
 pub end-by : (s : List ℕ) (at : ℕ) (h : Head) (n w : ℕ) → n ≡ arityOf h → w ≡ widthOf h → n ≤ max-args → HeadAt s at (Some h) → (r : Option ℕ) → EndOfAll s n (at + w) r → EndOf s at r
 end-by s at h n w en ew l a r q = end-of-head s at h a (omega arith) r (subst₂ (λ (m k : ℕ). EndOfAll s m (at + k) r) en ew q)
+
 pub end-of-none : (s : List ℕ) (at : ℕ) (h : Head) → HeadAt s at (Some h) → max-args < arityOf h → EndOf s at None
 end-of-none s at h a l e x r = let g = goes-all (goes-at s at h a r) .0 in omega arith
 
@@ -101,7 +105,9 @@ starting s at h = let i = starting-list h in let e : getD (drop at s) 0 0 ≡ ge
 -- one, two or three bytes at a place
 pub bytes1 : (s : List ℕ) (at b : ℕ) → at < length s → getD s at 0 ≡ b → drop at s ≡ b ∷ drop (at + 1) s
 bytes1 s at b l e = drop-more s at 0 l ∙ ap (λ z. z ∷ drop (at + 1) s) e
+
 pub bytes2 : (s : List ℕ) (at b : ℕ) → at + 2 ≤ length s → getD s at 0 ≡ b → drop at s ≡ b ∷ getD s (at + 1) 0 ∷ drop (at + 2) s
 bytes2 s at b l e = bytes1 s at b (omega arith) e ∙ ap (λ z. b ∷ z) (bytes1 s (at + 1) (getD s (at + 1) 0) (omega arith) refl ∙ ap (λ k. getD s (at + 1) 0 ∷ drop k s) (omega arith))
+
 pub bytes3 : (s : List ℕ) (at b : ℕ) → at + 3 ≤ length s → getD s at 0 ≡ b → drop at s ≡ b ∷ getD s (at + 1) 0 ∷ getD s (at + 2) 0 ∷ drop (at + 3) s
 bytes3 s at b l e = bytes2 s at b (omega arith) e ∙ ap (λ z. b ∷ getD s (at + 1) 0 ∷ z) (bytes1 s (at + 2) (getD s (at + 2) 0) (omega arith) refl ∙ ap (λ k. getD s (at + 2) 0 ∷ drop k s) (omega arith))

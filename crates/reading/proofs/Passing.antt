@@ -34,6 +34,7 @@ passed-more s j i k w p h = record { within = h .0; forward = let a = h .1 in le
   where
     onto : (n : ℕ) (es : Exprs) (x : List ℕ) → ReadsAll n (drop w s) es x → (fs : Exprs) × ReadsAll ((i + 1) + n) (drop j s) fs x
     onto n es x r = let q = p .onto (suc n) (cons (h .2) es) x (r-cons (h .3) r) in let e : i + suc n ≡ (i + 1) + n = omega arith in (q .0, subst (λ (m : ℕ). ReadsAll m (drop j s) (q .0) x) e (q .1))
+
     back : (n : ℕ) (es : Exprs) (x : List ℕ) → ReadsAll ((i + 1) + n) (drop j s) es x → (fs : Exprs) × ReadsAll n (drop w s) fs x
     back n es x r =
         let e : (i + 1) + n ≡ i + suc n = omega arith in
@@ -45,6 +46,7 @@ passed-more s j i k w p h = record { within = h .0; forward = let a = h .1 in le
 -- past the end no expression stands
 pub none-past : (s : List ℕ) (k : ℕ) → length s ≤ k → EndOf s k None
 none-past s k l e x h = omega (arith, starting s k h .one)
+
 -- where one of them does not stand there, they are not all there
 pub passed-no : (s : List ℕ) (j i k n : ℕ) → Passed s j i k → i < n → EndOf s k None → EndOfAll s n j None
 passed-no s j i k n p l h es x r =
@@ -52,6 +54,7 @@ passed-no s j i k n p l h es x r =
     let q = p .back (suc (n - (i + 1))) es x (subst (λ (m : ℕ). ReadsAll m (drop j s) es x) e r) in
     let f = first-of (q .1) in
     h (f .0) (f .2) (f .3)
+
 pub passed-all : (s : List ℕ) (j n k : ℕ) → Passed s j n k → EndOfAll s n j (Some k)
 passed-all s j n k p = let q = p .onto 0 nil (drop k s) r-nil in (p .within, p .forward, q .0, rw add-zero at (q .1))
 

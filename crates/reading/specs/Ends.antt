@@ -12,6 +12,7 @@ use Rattle.lang.specs.Reads.{Reads, ReadsAll}
 abbrev pub EndOfAll : List ℕ → ℕ → ℕ → Option ℕ → Type 0
 EndOfAll s n j (Some k) = (k ≤ length s) × (j ≤ k) × (es : Exprs) × ReadsAll n (drop j s) es (drop k s)
 EndOfAll s n j None = (es : Exprs) (x : List ℕ) → ReadsAll n (drop j s) es x → ⊥
+
 -- the same of one expression
 abbrev pub EndOf : List ℕ → ℕ → Option ℕ → Type 0
 EndOf s j (Some k) = (k ≤ length s) × (j < k) × (e : Expr) × Reads (drop j s) e (drop k s)
@@ -21,6 +22,7 @@ EndOf s j None = (e : Expr) (x : List ℕ) → Reads (drop j s) e x → ⊥
 pub record EndWord (s : List ℕ) (j w : ℕ) : Type 0 where
   pub none : w ≡ 0 → EndOf s j None
   pub some : 0 < w → EndOf s j (Some w)
+
 -- the table is right from i on
 abbrev pub EndsFrom : List ℕ → List ℕ → ℕ → Type 0
 EndsFrom s ends i = (j : ℕ) → i ≤ j → j < length s → EndWord s j (getD ends j 0)

@@ -21,6 +21,7 @@ pub record StandsAt (s : List ℕ) (g : Fun) (at : ℕ) : Type 0 where
   pub args-there : getD s at 0 ≡ g .args
   pub rest : List ℕ
   pub body-there : Reads (drop (at + 1) s) (g .body) rest
+
 -- the starts of the functions, in order
 abbrev pub Starts : List ℕ → List Fun → List ℕ → Type 0
 Starts s p starts = (f : ℕ) (g : Fun) → nth p f ≡ opt.some g → StandsAt s g (getD starts f 0)
@@ -31,6 +32,7 @@ pub record Found (s : List ℕ) (p : Prog) (starts : List ℕ) (n : ℕ) : Type 
   pub number : length p ≡ n
   pub few : n ≤ max-functions
   pub starting : Starts s p starts
+
 abbrev pub FoundOr : List ℕ → List ℕ → Option ℕ → Type 0
 FoundOr s starts (Some n) = (p : Prog) × Found s p starts n
 FoundOr s starts None = (p : Prog) → Functions s p → max-functions < length p

@@ -26,6 +26,7 @@ widthOf Node = 1
 widthOf (Parts i) = 2
 widthOf Bind = 1
 widthOf (Call f n) = 3
+
 abbrev pub arityOf : Head → ℕ
 arityOf (Var i) = 0
 arityOf Leaf = 0

@@ -14,6 +14,7 @@ pub record Tables (s : List ℕ) (p : Prog) (ends starts : List ℕ) (n : ℕ) :
   pub program : Program s p
   pub found : Found s p starts n
   pub ending : EndsFrom s ends 0
+
 -- a program was read; or there is none
 abbrev pub ReadOr : List ℕ → List ℕ → List ℕ → Option ℕ → Type 0
 ReadOr s ends starts (Some n) = (p : Prog) × Tables s p ends starts n

@@ -89,7 +89,14 @@ fn takes_args(bytes: &[u8], starts: &[u32], f: u8, n: u8) -> bool
 }
 
 // What the expression with a head needs, by the tables, which are right after its place.
-fn need_of_head(bytes: &[u8], ends: &[u32], starts: &[u32], needs: &[u32], at: usize, head: Head) -> u32
+fn need_of_head(
+    bytes: &[u8],
+    ends: &[u32],
+    starts: &[u32],
+    needs: &[u32],
+    at: usize,
+    head: Head,
+) -> u32
     requires within { ⌜ length (now bytes) ≤ length (now ends) ⌝ }
     requires needs_within { ⌜ length (now bytes) ≤ length (now needs) ⌝ }
     requires known { ⌜ EndsFrom (now bytes) (now ends) 0 ⌝ }

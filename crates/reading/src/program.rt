@@ -11,7 +11,12 @@ pub const MAX_BYTES: usize = 4096;
 
 // Reads a program: how many functions it has, or that the bytes are none.
 // The tables say afterwards where each expression ends and where each function starts.
-pub fn read_program(bytes: &[u8], ends: &mut [u32], starts: &mut [u32], needs: &mut [u32]) -> Option<usize>
+pub fn read_program(
+    bytes: &[u8],
+    ends: &mut [u32],
+    starts: &mut [u32],
+    needs: &mut [u32],
+) -> Option<usize>
     requires ends_room { ⌜ length (now bytes) ≤ length (now ends) ⌝ }
     requires starts_room { ⌜ 64 ≤ length (now starts) ⌝ }
     requires needs_room { ⌜ length (now bytes) ≤ length (now needs) ⌝ }

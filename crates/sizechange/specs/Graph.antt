@@ -11,6 +11,7 @@ pub record Arc : Type 0 where
   pub from : ℕ
   pub to : ℕ
   pub how : ℕ
+
 -- an edge of the call graph, from point to point, with its size-change graph
 pub record Step : Type 0 where
   pub caller : ℕ
@@ -21,6 +22,7 @@ abbrev pub nth : {A : Type 0} → List A → ℕ → Option A
 nth [] n = none
 nth (x ∷ xs) zero = some x
 nth (x ∷ xs) (suc n) = nth xs n
+
 pub data In {A : Type 0} (a : A) : List A → Type 0 where
   here : {xs : List A} → In a (a ∷ xs)
   there : {x : A} {xs : List A} → In a xs → In a (x ∷ xs)
@@ -29,10 +31,12 @@ pub data In {A : Type 0} (a : A) : List A → Type 0 where
 abbrev pub leads : List Arc → ℕ → ℕ → ℕ
 leads [] i j = 0
 leads (a ∷ as₁) i j = max (cond (eqb i (a .from) && eqb j (a .to)) (a .how) 0) (leads as₁ i j)
+
 -- composition: every arc followed by every arc that begins where it ends; a part if either is
 abbrev pub compose1 : Arc → List Arc → List Arc
 compose1 a [] = []
 compose1 a (b ∷ bs) = cond (eqb (a .to) (b .from)) (record { from = a .from; to = b .to; how = max (a .how) (b .how) } ∷ compose1 a bs) (compose1 a bs)
+
 abbrev pub compose : List Arc → List Arc → List Arc
 compose [] bs = []
 compose (a ∷ as₁) bs = compose1 a bs ++ compose as₁ bs
@@ -41,9 +45,11 @@ compose (a ∷ as₁) bs = compose1 a bs ++ compose as₁ bs
 pub data Way (ss : List Step) : ℕ → ℕ → List Arc → Type 0 where
   one : (s : Step) → In s ss → Way ss (s .caller) (s .callee) (s .arcs)
   more : {f g : ℕ} {as₁ : List Arc} (s : Step) → Way ss f g as₁ → In s ss → s .caller ≡ g → Way ss f (s .callee) (compose as₁ (s .arcs))
+
 -- two graphs lead alike
 abbrev pub Alike : List Arc → List Arc → Type 0
 Alike as₁ bs = (i j : ℕ) → leads as₁ i j ≡ leads bs i j
+
 -- a graph is idempotent: gone twice, it leads alike
 abbrev pub Idempotent : List Arc → Type 0
 Idempotent as₁ = Alike (compose as₁ as₁) as₁
@@ -57,13 +63,16 @@ pub record Way1 : Type 0 where
   pub caller : ℕ
   pub callee : ℕ
   pub arcs : List Arc
+
 -- a list has a way from f to g that leads like as₁
 abbrev pub Listed : List Way1 → ℕ → ℕ → List Arc → Type 0
 Listed ws f g as₁ = (i : ℕ) × (w : Way1) × (nth ws i ≡ some w) × (w .caller ≡ f) × (w .callee ≡ g) × Alike (w .arcs) as₁
+
 -- a list of ways, no two of which lead alike
 pub record Different (ss : List Step) (ws : List Way1) : Type 0 where
   pub are : (i : ℕ) (w : Way1) → nth ws i ≡ some w → Way ss (w .caller) (w .callee) (w .arcs)
   pub differ : (i j : ℕ) (w v : Way1) → nth ws i ≡ some w → nth ws j ≡ some v → w .caller ≡ v .caller → w .callee ≡ v .callee → Alike (w .arcs) (v .arcs) → i ≡ j
+
 -- all the ways, those that lead alike counted once
 pub record Ways (ss : List Step) (ws : List Way1) : Type 0 where
   pub different : Different ss ws

@@ -13,10 +13,12 @@ pub record FineArc (k : ℕ) (a : Arc) : Type 0 where
   pub to-below : a .to < k
   pub some-how : 1 ≤ a .how
   pub how-most : a .how ≤ 2
+
 pub record FineStep (n k : ℕ) (s : Step) : Type 0 where
   pub caller-below : s .caller < n
   pub callee-below : s .callee < n
   pub arcs-fine : (a : Arc) → In a (s .arcs) → FineArc k a
+
 abbrev pub Fine : ℕ → ℕ → List Step → Type 0
 Fine n k ss = (s : Step) → In s ss → FineStep n k s
 
@@ -24,13 +26,16 @@ Fine n k ss = (s : Step) → In s ss → FineStep n k s
 pub record State : Type 0 where
   pub point : ℕ
   pub size : ℕ → ℕ
+
 -- an arc fits two sizes: the same is no larger, a part is smaller
 pub record Fits (how small big : ℕ) : Type 0 where
   pub no-larger : small ≤ big
   pub smaller : 2 ≤ how → small < big
+
 -- the arcs hold between the sizes before and the sizes after
 abbrev pub Holds : (ℕ → ℕ) → (ℕ → ℕ) → List Arc → Type 0
 Holds before after as₁ = (a : Arc) → In a as₁ → Fits (a .how) (after (a .to)) (before (a .from))
+
 -- y comes after x by one step
 pub record Next (ss : List Step) (y x : State) : Type 0 where
   pub step : Step
@@ -52,13 +57,17 @@ pub record Closed (ss : List Step) (ws : List Way1) : Type 0 where
   pub different : Different ss ws
   pub has-steps : (s : Step) → In s ss → Listed ws (s .caller) (s .callee) (s .arcs)
   pub has-more : (i : ℕ) (w : Way1) (s : Step) → nth ws i ≡ some w → In s ss → s .caller ≡ w .callee → Listed ws (w .caller) (s .callee) (compose (w .arcs) (s .arcs))
+
 abbrev pub Closed-is-all : Type 0
 Closed-is-all = (n k : ℕ) (ss : List Step) (ws : List Way1) → Fine n k ss → Closed ss ws → Ways ss ws
+
 -- no list of different ways is longer than that of all ways; so two lists of all ways have the same length: the number of ways is a fact about the call graph
 abbrev pub Different-are-fewer : Type 0
 Different-are-fewer = (ss : List Step) (vs ws : List Way1) → Different ss vs → Ways ss ws → length vs ≤ length ws
+
 abbrev pub One-number : Type 0
 One-number = (ss : List Step) (ws vs : List Way1) → Ways ss ws → Ways ss vs → length ws ≡ length vs
+
 -- from the list of all ways it is decided whether there is the reason
 abbrev pub Decided : Type 0
 Decided = (n k : ℕ) (ss : List Step) (ws : List Way1) → Fine n k ss → Ways ss ws → Dec (Has-reason ss)
