@@ -1,6 +1,7 @@
+// Reads a script: bytes to where its functions start and where its expressions end.
 mod bodies;
-mod ends;
-mod functions;
+pub mod ends;
+pub mod functions;
 pub mod head;
 mod needs;
 pub mod program;
