@@ -23,7 +23,7 @@ fn body_fits(bytes: &[u8], starts: &[u32], needs: &[u32], f: usize) -> bool
 }
 
 // Whether the bodies of all functions are.
-pub fn bodies_fit(bytes: &[u8], starts: &[u32], needs: &[u32]) -> bool
+pub(crate) fn bodies_fit(bytes: &[u8], starts: &[u32], needs: &[u32]) -> bool
     requires needs_within { ⌜ length (now bytes) ≤ length (now needs) ⌝ }
     requires found { ⌜ ((p : Prog) × Located (now bytes) (now starts) p) ⌝ }
     ensures { λ r. ⌜ ((p : Prog) → Located (now (bytes .entry)) (now (starts .entry)) p → NeedsFrom p (now (bytes .entry)) (now (needs .entry)) 0 → r ≡ all-ok p p) ⌝ }

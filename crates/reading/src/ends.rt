@@ -89,7 +89,7 @@ fn end_word(bytes: &[u8], ends: &[u32], at: usize) -> u32
 }
 
 // Fills the table of ends, from the last byte to the first, so that each expression finds its parts' ends there.
-pub fn fill_ends(bytes: &[u8], ends: &mut [u32])
+pub(crate) fn fill_ends(bytes: &[u8], ends: &mut [u32])
     requires few { ⌜ length (now bytes) ≤ 4096 ⌝ }
     requires within { ⌜ length (now bytes) ≤ length (now ends) ⌝ }
     ensures { λ _. ⌜ EndsFrom (now (bytes .entry)) (now (ends .exit)) 0 ⌝ }

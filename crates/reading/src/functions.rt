@@ -15,7 +15,7 @@ use super::ends::known_end;
 pub const MAX_FUNCTIONS: usize = 64;
 
 // Finds the functions, which stand one after the other, and notes where each starts.
-pub fn find_functions(bytes: &[u8], ends: &[u32], starts: &mut [u32]) -> Option<usize>
+pub(crate) fn find_functions(bytes: &[u8], ends: &[u32], starts: &mut [u32]) -> Option<usize>
     requires few { ⌜ length (now bytes) ≤ 4096 ⌝ }
     requires within { ⌜ length (now bytes) ≤ length (now ends) ⌝ }
     requires room { ⌜ 64 ≤ length (now starts) ⌝ }

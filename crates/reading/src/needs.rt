@@ -135,7 +135,7 @@ fn need_at(bytes: &[u8], ends: &[u32], starts: &[u32], needs: &[u32], at: usize)
 }
 
 // Fills the table of needs, from the last byte to the first.
-pub fn fill_needs(bytes: &[u8], ends: &[u32], starts: &[u32], needs: &mut [u32])
+pub(crate) fn fill_needs(bytes: &[u8], ends: &[u32], starts: &[u32], needs: &mut [u32])
     requires within { ⌜ length (now bytes) ≤ length (now ends) ⌝ }
     requires needs_within { ⌜ length (now bytes) ≤ length (now needs) ⌝ }
     requires known { ⌜ EndsFrom (now bytes) (now ends) 0 ⌝ }
