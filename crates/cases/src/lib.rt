@@ -1,0 +1,3 @@
+// Worked scripts and bad input, as tests.
+#[cfg(test)]
+mod reading_tests;
