@@ -1,8 +1,9 @@
-pub mod Standing
 pub mod Arguments
+pub mod Fine
 pub mod Laying
-pub mod Waiting
-pub mod Parting
-pub mod Stepping
-pub mod Walking
 pub mod Listing
+pub mod Parting
+pub mod Standing
+pub mod Stepping
+pub mod Waiting
+pub mod Walking

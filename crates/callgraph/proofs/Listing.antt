@@ -35,12 +35,13 @@ pub record Listed (p : Prog) (s rows : List ℕ) (at f m : ℕ) : Type 0 where
   pub whole : past ++ all-steps f others ≡ call-graph p
 pub record Listing (s rows : List ℕ) (at f m : ℕ) : Type 0 where
   pub few : 3 * m ≤ at
+  pub within : at ≤ length s
   pub listed : (p : Prog) → Program s p → Listed p s rows at f m
 
 rows-none : (rows : List ℕ) → StepRows rows [] 0
 rows-none rows = record { number = refl; each = λ i s e. let z : _≡_ {A = ℕ} 0 1 = cc in absurd (omega arith) }
 pub listing-none : (s rows : List ℕ) → Listing s rows 0 0 0
-listing-none s rows = record { few = omega arith; listed = λ p h. record { past = []; others = p; there = program-functions s p h; well = fine-parts s p h .2; number = omega arith; written = rows-none rows; whole = refl } }
+listing-none s rows = record { few = omega arith; within = omega arith; listed = λ p h. record { past = []; others = p; there = program-functions s p h; well = fine-parts s p h .2; number = omega arith; written = rows-none rows; whole = refl } }
 
 -- the function that stands at a place
 pub record Function (p : Prog) (s ends : List ℕ) (at : ℕ) (fs : List Fun) : Type 0 where
@@ -89,8 +90,8 @@ listing-at {s} {rows} {at} {f} {m} ends t h l q =
     let b = x .number in
     let c = fine-parts s (q .0) (q .1) .1 in
     record { program = q .0; size = c; functions = x .others; function = y; below = omega arith }
-pub listing-turn : {s rows : List ℕ} {at f m : ℕ} (ends : List ℕ) → EndsFrom s ends 0 → Listing s rows at f m → at < length s → (views known rows₁ : List ℕ) (args m₁ : ℕ) → args ≡ getD s at 0 → Noted views (at + 1) args 0 0 → in-view known args ≡ given 0 args → 3 * m₁ ≤ getD ends (at + 1) 0 → ((p : Prog) (b : ℕ) (ss done : List Step) → Pending p s views known f (getD ends (at + 1) 0) b (at + 1) ss → StepRows rows done m → StepRows rows₁ (done ++ ss) m₁) → Listing s rows₁ (getD ends (at + 1) 0) (f + 1) m₁
-listing-turn {s} {rows} {at} {f} {m} ends t h l views known rows₁ args m₁ e n g few visit = record { few = few; listed = listed }
+pub listing-turn : {s rows : List ℕ} {at f m : ℕ} (ends : List ℕ) → EndsFrom s ends 0 → Listing s rows at f m → at < length s → (views known rows₁ : List ℕ) (args m₁ : ℕ) → args ≡ getD s at 0 → Noted views (at + 1) args 0 0 → in-view known args ≡ given 0 args → 3 * m₁ ≤ getD ends (at + 1) 0 → getD ends (at + 1) 0 ≤ length s → ((p : Prog) (b : ℕ) (ss done : List Step) → Pending p s views known f (getD ends (at + 1) 0) b (at + 1) ss → StepRows rows done m → StepRows rows₁ (done ++ ss) m₁) → Listing s rows₁ (getD ends (at + 1) 0) (f + 1) m₁
+listing-turn {s} {rows} {at} {f} {m} ends t h l views known rows₁ args m₁ e n g few within visit = record { few = few; within = within; listed = listed }
   where
     listed : (p : Prog) → Program s p → Listed p s rows₁ (getD ends (at + 1) 0) (f + 1) m₁
     listed p q =

@@ -23,29 +23,24 @@ use Rattle.graphs.specs.declared.Graph.{Graph}
 use Rattle.graphs.specs.Words.{Words}
 use Rattle.table.specs.declared.Edge.{Edge}
 use Rattle.table.specs.declared.Row.{Row}
-use Rattle.table.specs.Rows.{Same-row, row-at}
+use Rattle.table.specs.Rows.{Same-row, row-at, rows as list}
+use Rattle.table.proofs.Rows.{length-rows, nth-push, rows-nth}
 use Rattle.callgraph.specs.Standing.{Standing, StandingAll, Stands}
 use Rattle.callgraph.specs.Pending.{own}
-use Rattle.callgraph.specs.StepRows.{IsStep, StepRows, OneStep}
+use Rattle.callgraph.specs.StepRows.{IsStep, StepRow, StepRows, OneStep}
 use Rattle.callgraph.proofs.Parting.{call-all}
 
-nth-push : {A : Type 0} (xs : List A) (x : A) (i : ℕ) (y : A) → nth (xs ++ x ∷ []) i ≡ opt.some y → (nth xs i ≡ opt.some y) ⊎ ((i ≡ length xs) × (x ≡ y))
-nth-push [] x zero y e = inr (refl, cc)
-nth-push [] x (suc i) y e = let z : _≡_ {A = ℕ} 0 1 = cc in absurd (omega arith)
-nth-push (w ∷ xs) x zero y e = inl e
-nth-push (w ∷ xs) x (suc i) y e = ⊎-elim (λ h. inl h) (λ h. inr (ap suc (h .0), h .1)) (nth-push xs x i y e)
-
-rows-push : (rows rows₁ : List ℕ) (done : List Step) (s : Step) (m : ℕ) → StepRows rows done m → ((j : ℕ) → (j ≡ m → ⊥) → Same-row rows rows₁ j) → IsStep (row-at rows₁ m .edge) s → StepRows rows₁ (done ++ s ∷ []) (m + 1)
+rows-push : (rows rows₁ : List ℕ) (done : List Step) (s : Step) (m : ℕ) → StepRows rows done m → ((j : ℕ) → (j ≡ m → ⊥) → Same-row rows rows₁ j) → StepRow (row-at rows₁ m) m s → StepRows rows₁ (done ++ s ∷ []) (m + 1)
 rows-push rows rows₁ done s m h o q = record {
   number = let a = length-append done (s ∷ []) in let b = h .number in omega arith;
   each = λ i t e. ⊎-elim
-    (λ r. let l = nth-below done i r in let b = h .number in subst (λ (w : Row). IsStep (w .edge) t) (sym (o i (λ z. omega arith) .row)) (h .each i t r))
-    (λ r. let b = h .number in subst (λ (j : ℕ). IsStep (row-at rows₁ j .edge) t) (sym (r .0 ∙ b)) (subst (λ (u : Step). IsStep (row-at rows₁ m .edge) u) (r .1) q))
-    (nth-push done s i t e)
+    (λ r. let l = nth-below done i r in let b = h .number in subst (λ (w : Row). StepRow w i t) (sym (o i (λ z. omega arith) .row)) (h .each i t r))
+    (λ r. let b = h .number in subst (λ (j : ℕ). StepRow (row-at rows₁ j) j t) (sym (r .0 ∙ b)) (subst (λ (u : Step). StepRow (row-at rows₁ m) m u) (r .1) q))
+    (nth-push done s i e)
 }
-pub rows-one : (rows rows₁ : List ℕ) (m : ℕ) (e : Edge) → row-at rows₁ m .edge ≡ e → ((j : ℕ) → (j ≡ m → ⊥) → Same-row rows rows₁ j) → (done ss : List Step) → StepRows rows done m → OneStep ss (Some e) → StepRows rows₁ (done ++ ss) (m + 1)
+pub rows-one : (rows rows₁ : List ℕ) (m : ℕ) (e : Edge) → row-at rows₁ m ≡ record { edge = e; from = 0; step = m } → ((j : ℕ) → (j ≡ m → ⊥) → Same-row rows rows₁ j) → (done ss : List Step) → StepRows rows done m → OneStep ss (Some e) → StepRows rows₁ (done ++ ss) (m + 1)
 rows-one rows rows₁ m e r o done ss h q =
-    subst (λ (ts : List Step). StepRows rows₁ (done ++ ts) (m + 1)) (sym (q .1)) (rows-push rows rows₁ done (q .0) m h o (subst (λ (d : Edge). IsStep d (q .0)) (sym r) (q .2)))
+    subst (λ (ts : List Step). StepRows rows₁ (done ++ ts) (m + 1)) (sym (q .1)) (rows-push rows rows₁ done (q .0) m h o (subst (λ (w : Row). StepRow w m (q .0)) (sym r) (record { step = q .2; from-none = refl; number-is = refl })))
 pub rows-same : (rows : List ℕ) (m : ℕ) (done ss : List Step) → StepRows rows done m → ss ≡ [] → StepRows rows (done ++ ss) m
 rows-same rows m done ss h e = subst (λ (ts : List Step). StepRows rows ts m) (sym (ap (λ (ts : List Step). done ++ ts) e ∙ append-nil done)) h
 
@@ -76,3 +71,7 @@ no-own f ks n (g-bind q) = refl
 no-own f ks n (g-call {f = g} {n = m} l q) = absurd (n g m refl)
 pub no-step : (ks : List (opt.Option From)) (p : Prog) (s : List ℕ) (vars at f : ℕ) (h : Head) → HeadAt s at (Some h) → ((g n : ℕ) → h ≡ Call g n → ⊥) → (e : Expr) (k : ℕ) → Standing p s vars at e k → own f ks e ≡ []
 no-step ks p s vars at f h a n e k q = no-own f ks n (goes-at s at h a (q .reads))
+
+-- the rows as a list, step by step
+pub rows-steps : (xs : List ℕ) (ss : List Step) (m : ℕ) → StepRows xs ss m → (length (list xs m) ≡ length ss) × ((i : ℕ) (r : Row) (s : Step) → nth (list xs m) i ≡ opt.some r → nth ss i ≡ opt.some s → IsStep (r .edge) s)
+rows-steps xs ss m h = (length-rows xs m ∙ sym (h .number), λ i r s e q. subst (λ (w : Row). IsStep (w .edge) s) (rows-nth xs m i e .1) (h .each i s q .step))

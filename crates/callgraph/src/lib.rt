@@ -23,7 +23,8 @@ pub fn list_steps(bytes: &[u8], ends: &[u32], known: &mut [u32], views: &mut [u3
     requires program { ⌜ ((p : Prog) × Program (now bytes) p) ⌝ }
     requires room { ⌜ Room (now bytes) (now ends) (length (now known)) (length (now views)) ⌝ }
     requires rows { ⌜ 8 * (length (now bytes) / 3) ≤ length (now rows) ⌝ }
-    ensures { λ r. ⌜ ((p : Prog) → Program (now (bytes .entry)) p → StepRows (now (rows .exit)) (call-graph p) r) ⌝ }
+    ensures few { λ r. ⌜ 3 * r ≤ length (now (bytes .entry)) ⌝ }
+    ensures steps { λ r. ⌜ ((p : Prog) → Program (now (bytes .entry)) p → StepRows (now (rows .exit)) (call-graph p) r) ⌝ }
 {
     let mut at = 0;
     let mut caller = 0;

@@ -45,8 +45,8 @@ end-of-at-requires c κs =
 
 pub loop-at-again : need.loop-at-again
 loop-at-again c =
-    let q = listing-turn (c .args .ends .now) (c .pre .room .ending) (c .loop-at .inv) (c .loop-at-test .taken) (c .note .last .views) (c .give .last .known) (c .visit-body-m .last .rows) _ (c .visit-body-m .result) refl (note-as _ _ _ _ _ _ _ _ (c .plain .ensures .outer) (c .plain .ensures .new) (c .plain .ensures .origin) (c .note .ensures .noted)) (c .give .ensures) (c .visit-body-m .ensures .few) (c .visit-body-m .ensures .steps) in
+    let q = listing-turn (c .args .ends .now) (c .pre .room .ending) (c .loop-at .inv) (c .loop-at-test .taken) (c .note .last .views) (c .give .last .known) (c .visit-body-m .last .rows) _ (c .visit-body-m .result) refl (note-as _ _ _ _ _ _ _ _ (c .plain .ensures .outer) (c .plain .ensures .new) (c .plain .ensures .origin) (c .note .ensures .noted)) (c .give .ensures) (c .visit-body-m .ensures .few) (omega arith) (c .visit-body-m .ensures .steps) in
     subst (λ (k : ℕ). Listing (c .args .bytes .now) (c .visit-body-m .last .rows) k (c .loop-at .caller + 1) (c .visit-body-m .result)) (sym (c .end-of-at .ensures .is)) q
 
 pub returns : need.returns
-returns c = listing-done (c .loop-at .inv) (c .loop-at-test .left)
+returns c = let f = c .loop-at .inv .few in let w = c .loop-at .inv .within in record { few = omega arith; steps = listing-done (c .loop-at .inv) (c .loop-at-test .left) }
