@@ -15,6 +15,7 @@ use Rattle.lang.specs.Bytes.{Program, takes}
 use Rattle.lang.proofs.Reading.{one-program, fine-parts, few-args}
 use Rattle.reading.specs.Tables.{Tables}
 use Rattle.reading.proofs.Places.{table-function}
+use Rattle.tasks.specs.Texts.{Taking}
 use Rattle.calling.specs.Calling.{Judged, Wants}
 
 pub same-program : (s ends starts : List ℕ) (k : ℕ) (j : Judged s ends starts k) (p : Prog) → Program s p → j .prog ≡ p
@@ -35,3 +36,13 @@ wants s ends starts k f n j l h =
     let x = table-function s ends starts (j .prog) k f (j .tables) l in
     let t = takes-args (nth (j .prog) f) (x .0) n (x .1) (h (x .0) (x .1)) in
     ((λ p q. subst (λ (y : Prog). T (takes (nth y f) n)) (same-program s ends starts k j p q) t), few-args (j .prog) (j .prog) f n (fine-parts s (j .prog) (j .tables .program) .2) t)
+
+takes-some : (o : opt.Option Fun) (n : ℕ) → T (takes o n) → (g : Fun) × (o ≡ opt.some g)
+takes-some opt.none n t = absurd t
+takes-some (opt.some g) n t = (g, refl)
+pub taking-below : (s ends starts : List ℕ) (k f n : ℕ) → Judged s ends starts k → Taking s f n → f < 64
+taking-below s ends starts k f n j t =
+    let x = takes-some (nth (j .prog) f) n (t (j .prog) (j .tables .program)) in
+    let a = nth-below (j .prog) f (x .1) in
+    let b = fine-parts s (j .prog) (j .tables .program) .1 in
+    omega arith

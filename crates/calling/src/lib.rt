@@ -58,3 +58,59 @@ fn evaluate(text: &Text<'_>, store: &mut Store<'_>, f: u8, n: usize, depth: usiz
         Outcome::Deep => Called::Deep,
     }
 }
+
+// Calls a function that takes n arguments.
+fn call_with(
+    text: &Text<'_>,
+    f: u8,
+    n: usize,
+    args: &[u8],
+    depth: usize,
+    room: usize,
+    out: &mut [u8],
+    memory: &mut [u32],
+    frames: &mut [u32],
+) -> Called
+    requires takes { ⌜ Taking (now (now text .bytes)) f n ⌝ }
+    requires numbered { ⌜ length (now args) + room < 2 ^ 32 ⌝ }
+    requires memory { ⌜ 4 * (length (now args) + room) ≤ length (now memory) ⌝ }
+    requires frames { ⌜ 4096 * (depth + 1) ≤ length (now frames) ⌝ }
+    ensures { λ r. ⌜ CalledSays (now (now (text .entry) .bytes)) f (now (args .entry)) depth room (now (out .entry)) (now (out .exit)) r ⌝ }
+{
+    let words = 2 * (args.len() + room);
+    let (nodes, rest) = memory.split_at_mut(words);
+    let (stack, _) = rest.split_at_mut(words);
+    match read_trees(args, n, nodes, stack) {
+        Some(used) => {
+            let mut store = Store { nodes, used, limit: used + room, frames, stop: GOING };
+            evaluate(text, &mut store, f, n, depth, stack, out)
+        }
+        None => Called::BadCall,
+    }
+}
+
+// Calls a function of a script that was judged, with the trees whose bytes are the arguments, so many further calls open inside at most and so much room for nodes.
+pub fn call(
+    text: &Text<'_>,
+    functions: usize,
+    function: usize,
+    args: &[u8],
+    depth: usize,
+    room: usize,
+    out: &mut [u8],
+    memory: &mut [u32],
+    frames: &mut [u32],
+) -> Called
+    requires judged { ⌜ Judged (now (now text .bytes)) (now (now text .ends)) (now (now text .starts)) functions ⌝ }
+    requires ends_room { ⌜ length (now (now text .bytes)) ≤ length (now (now text .ends)) ⌝ }
+    requires starts_room { ⌜ 64 ≤ length (now (now text .starts)) ⌝ }
+    requires numbered { ⌜ length (now args) + room < 2 ^ 32 ⌝ }
+    requires memory { ⌜ 4 * (length (now args) + room) ≤ length (now memory) ⌝ }
+    requires frames { ⌜ 4096 * (depth + 1) ≤ length (now frames) ⌝ }
+    ensures { λ r. ⌜ CalledSays (now (now (text .entry) .bytes)) function (now (args .entry)) depth room (now (out .entry)) (now (out .exit)) r ⌝ }
+{
+    match wanted(text.bytes, text.ends, text.starts, functions, function) {
+        Some(n) => call_with(text, function as u8, n, args, depth, room, out, memory, frames),
+        None => Called::BadCall,
+    }
+}
