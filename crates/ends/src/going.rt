@@ -54,6 +54,8 @@ pub fn go(
             let called = call(program, ends, starts, functions, function, args, depth as usize, room as usize, out, memory, frames);
             answer(called)
         }
-        _ => Ran::Unproved,
+        Verdict::NoReason(_, _) => Ran::Unproved,
+        Verdict::NoProgram => Ran::Unproved,
+        Verdict::Many => Ran::Unproved,
     }
 }
