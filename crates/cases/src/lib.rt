@@ -1,3 +1,5 @@
 // Worked scripts and bad input, as tests.
 #[cfg(test)]
+mod judge_tests;
+#[cfg(test)]
 mod reading_tests;

@@ -8,8 +8,8 @@ ghost use Rattle.ends.specs.declared.Ran.{Ran as RanT};
 use super::Judged;
 use super::Ran;
 use super::RanC;
-use super::going::go;
-use super::judging::judge;
+use super::go_call::go;
+use super::judge_call::judge;
 
 // An answer without a value.
 fn only(answer: u32) -> RanC

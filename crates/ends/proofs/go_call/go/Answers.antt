@@ -7,7 +7,7 @@ use Rattle.ends.specs.declared.Ran.{Ran}
 use Rattle.ends.specs.Going.{GoPost}
 use Rattle.ends.proofs.Posts.{says-none}
 use Rattle.ends.proofs.Answers.{small-post, go-post, ready, go-says, left-fits, answer-not-small, unproved-not-small}
-use Rattle.ends.proofs.going.go.Needs as need
+use Rattle.ends.proofs.go_call.go.Needs as need
 
 pub returns-then-too-small : need.returns-then-too-small
 returns-then-too-small c = small-post (c .args .program .now) (c .args .ways) (c .args .function) (c .args .args .now) (c .args .depth) (c .args .room) (c .args .out .now) (length (c .args .work .now)) (c .too-small .result) (c .too-small .ensures) (c .if-too-small .taken)
