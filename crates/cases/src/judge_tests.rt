@@ -1,6 +1,8 @@
 ghost use Prim.Native.Nat.{_≤_};
 ghost use lib.ListN.{length};
 use ends::Judged;
+use ends::JudgedDebug;
+use ends::JudgedPartialEq;
 use ends::judge;
 use std::test::*;
 
@@ -52,5 +54,6 @@ fn answers_in_order() -> Result<(), Fail> {
     let mut work = [0u32; 16704];
     check_eq(judge(&[0, 5, 0, 0], 1, &mut work), Judged::NoReason).note("just enough words")?;
     check_eq(judge(&[0, 5, 0, 0], 1, &mut work[0..16703]), Judged::Few).note("one word less")?;
-    check_eq(judge(&[9], 1, &mut work[0..16511]), Judged::Few).note("few before no program")
+    let mut fewer = [0u32; 16511];
+    check_eq(judge(&[9], 1, &mut fewer), Judged::Few).note("few before no program")
 }
