@@ -3,6 +3,7 @@ mod exported;
 mod floors;
 mod go_call;
 mod judge_call;
+
 pub use exported::pegsienna_go;
 pub use exported::pegsienna_judge;
 pub use floors::pegsienna_go_words;

@@ -86,7 +86,10 @@ fn ways_allowed(rt: &LibcRuntime, text: Option<String>) -> Result<u32, AnyError>
         }
         Err(_) => {}
     }
-    Err(format!(rt.alloc(), "the number of ways is to be at most {MAX_WAYS}, and is {text:?}")?.into())
+    Err(format!(
+        rt.alloc(),
+        "the number of ways is to be at most {MAX_WAYS}, and is {text:?}"
+    )?.into())
 }
 
 // The script in a file, as the first bytes of the buffer, and how many they are.

@@ -23,7 +23,7 @@ returns-in-Ends c =
     let j = c .in-Ends .ensures tt in
     let says = go-says (c .args .program .now) (c .args .ways) (j .0) (ready (c .args .program .now) _ _ (c .args .ways) _ _ j) (c .args .function) (c .args .args .now) (c .args .depth) (c .args .room) (c .args .out .now) (c .call-called .last .out) (c .call-called .result) (c .call-called .ensures) in
     subst (λ (x : Ran). GoPost (c .args .program .now) (c .args .ways) (c .args .function) (c .args .args .now) (c .args .depth) (c .args .room) (c .args .out .now) (c .call-called .last .out) (length (c .args .work .now)) x) (sym (c .answer .ensures))
-      (go-post (c .args .program .now) (c .args .ways) (c .args .function) (c .args .args .now) (c .args .depth) (c .args .room) (c .args .out .now) (c .call-called .last .out) (length (c .args .work .now)) (c .too-small .result) _ (answer-not-small (c .call-called .result)) (c .too-small .ensures) (c .if-too-small .left) says)
+    (go-post (c .args .program .now) (c .args .ways) (c .args .function) (c .args .args .now) (c .args .depth) (c .args .room) (c .args .out .now) (c .call-called .last .out) (length (c .args .work .now)) (c .too-small .result) _ (answer-not-small (c .call-called .result)) (c .too-small .ensures) (c .if-too-small .left) says)
 
 pub returns-in-NoReason : need.returns-in-NoReason
 returns-in-NoReason c = go-post (c .args .program .now) (c .args .ways) (c .args .function) (c .args .args .now) (c .args .depth) (c .args .room) (c .args .out .now) _ (length (c .args .work .now)) (c .too-small .result) _ unproved-not-small (c .too-small .ensures) (c .if-too-small .left) (inl (says-none (c .args .program .now) _ _ (c .args .ways) _ _ (c .in-NoReason .ensures tt)), refl)
