@@ -1,0 +1,9 @@
+pub mod Moves
+pub mod Symbols
+pub mod Numbers
+pub mod Turns
+pub mod Lexing
+pub mod Steps
+pub mod Whole
+pub mod Unique
+pub mod Closing
