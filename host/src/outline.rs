@@ -101,11 +101,23 @@ pub enum Fault {
     /// The bytes end inside a function.
     Missing,
     /// A variable that isn't in view.
-    NotInView { variable: u8, in_view: usize },
+    NotInView {
+        /// The variable.
+        variable: u8,
+        /// How many are in view.
+        in_view: usize,
+    },
     /// A call of a function that isn't there.
     NoFunction(u8),
     /// A call with another number of arguments than the function takes.
-    Arguments { function: u8, given: u8, takes: u8 },
+    Arguments {
+        /// The function called.
+        function: u8,
+        /// How many it is called with.
+        given: u8,
+        /// How many it takes.
+        takes: u8,
+    },
 }
 
 impl Outline {
