@@ -29,7 +29,9 @@ fn main() -> Result<(), Box<dyn Error>> {
 /// Proves crate `ends` and writes its archive.
 fn proved(root: &Path) -> Result<PathBuf, Box<dyn Error>> {
     let made = Command::new("rt").args(["staticlib", "ends"]).current_dir(root).output();
-    let made = made.map_err(|e| format!("`rt staticlib ends` can't be run ({e}): the Rattle toolchain has to be on the path, or PEGSIENNA_ARCHIVE has to name an archive"))?;
+    let made = made.map_err(|e| {
+        format!("`rt staticlib ends` can't be run ({e}): the Rattle toolchain has to be on the path, or PEGSIENNA_ARCHIVE has to name an archive")
+    })?;
     if !made.status.success() {
         let said = String::from_utf8_lossy(&made.stdout) + String::from_utf8_lossy(&made.stderr);
         return Err(format!("`rt staticlib ends` failed:\n{said}").into());

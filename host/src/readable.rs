@@ -209,7 +209,7 @@ impl Entry {
         let numbers = matches!(left.form, Form::Number(_)) && right.numbers;
         let (form, length) = match (left.form, right.form) {
             (Form::Number(0), Form::Number(n)) => (Form::Number(n + 1), digits(n + 1)),
-            _ if items + 1 <= left.length + right.length + 3 => (Form::List, items + 1),
+            _ if items < left.length + right.length + 3 => (Form::List, items + 1),
             _ => (Form::Node, left.length + right.length + 3),
         };
         Entry { form, length, items, numbers, right: right_at }
@@ -343,7 +343,9 @@ mod tests {
     fn every_small_tree_is_read_back() {
         let mut by_nodes: Vec<Vec<Tree>> = vec![vec![Tree::leaf()]];
         for n in 1..=8 {
-            let all = (0..n).flat_map(|left| by_nodes[left].iter().flat_map(|l| by_nodes[n - 1 - left].iter().map(|r| Tree::node(l.clone(), r.clone()))).collect::<Vec<_>>());
+            let all = (0..n).flat_map(|left| {
+                by_nodes[left].iter().flat_map(|l| by_nodes[n - 1 - left].iter().map(|r| Tree::node(l.clone(), r.clone()))).collect::<Vec<_>>()
+            });
             by_nodes.push(all.collect());
         }
         for tree in by_nodes.iter().flatten() {
@@ -355,7 +357,8 @@ mod tests {
     #[test]
     fn deep_trees_do_not_need_stack() {
         let left = (0..1_000_000).fold(Tree::leaf(), |before, _| Tree::node(before, Tree::leaf()));
-        let zigzag = (0..1_000_000).fold(Tree::leaf(), |before, n| if n % 2 == 0 { Tree::node(before, Tree::leaf()) } else { Tree::node(Tree::number(3), before) });
+        let zigzag =
+            (0..1_000_000).fold(Tree::leaf(), |before, n| if n % 2 == 0 { Tree::node(before, Tree::leaf()) } else { Tree::node(Tree::number(3), before) });
         for tree in [Tree::number(1_000_000), left, zigzag] {
             assert_eq!(read(&tree.to_string()), tree);
         }

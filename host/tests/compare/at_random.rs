@@ -2,11 +2,12 @@
 
 use pegsienna::slices::{Call, Stop, Verdict};
 
+use crate::judge::{self, How};
 use crate::machine::{Answer, Machine, for_each};
 use crate::program::{self, Program};
 use crate::random::{self, Random};
 use crate::run::{self, Tree};
-use crate::{judge, second};
+use crate::second;
 
 /// The most ways that are counted.
 const MOST_WAYS: u32 = 2000;
@@ -21,7 +22,10 @@ struct Case {
     program: Program,
     verdict: Verdict,
     ways: Option<u32>,
+    /// Some way goes round.
     round: bool,
+    /// Some way goes round on which no argument becomes a part of itself, so that single arguments don't show the reason.
+    turning: bool,
 }
 
 fn case(random: &mut Random) -> Case {
@@ -29,22 +33,25 @@ fn case(random: &mut Random) -> Case {
     let script = program::write(&program);
     let ways = judge::ways(&program, MOST_WAYS as usize);
     let verdict = second::judge(&script, MOST_WAYS);
-    let round = ways.iter().flatten().any(|way| way.from == way.to);
-    Case { script, program, verdict, ways: ways.map(|ways| ways.len() as u32), round }
+    let mut rounds = ways.iter().flatten().filter(|way| way.from == way.to).peekable();
+    let round = rounds.peek().is_some();
+    let turning = rounds.any(|way| !way.arcs.iter().any(|(&(i, j), &how)| i == j && how == How::Part));
+    Case { script, program, verdict, ways: ways.map(|ways| ways.len() as u32), round, turning }
 }
 
-/// So many programs with the reason and ways that go round, without it, with too many ways, and with no way that goes round.
+/// So many programs with the reason and ways that go round, of which some turn, without it, with too many ways, and with no way that goes round.
 fn cases() -> Vec<Case> {
-    let mut wanted = [400, 200, 20, 40];
+    let mut wanted = [300, 120, 200, 20, 40];
     let mut random = Random::new(1);
     let mut cases = Vec::new();
     while wanted.iter().any(|&n| n > 0) {
         let case = case(&mut random);
         let kind = match case.verdict {
+            Verdict::Ends if case.turning => 1,
             Verdict::Ends if case.round => 0,
-            Verdict::NoReason => 1,
-            Verdict::Many => 2,
-            _ => 3,
+            Verdict::NoReason => 2,
+            Verdict::Many => 3,
+            _ => 4,
         };
         if wanted[kind] > 0 {
             wanted[kind] -= 1;
@@ -58,6 +65,7 @@ fn cases() -> Vec<Case> {
 struct Counts {
     programs: usize,
     with_reason_and_round: usize,
+    with_reason_and_turning: usize,
     most_ways: u32,
     trees: usize,
     calls: usize,
@@ -72,6 +80,7 @@ impl Counts {
     fn add(&mut self, other: Counts) {
         self.programs += other.programs;
         self.with_reason_and_round += other.with_reason_and_round;
+        self.with_reason_and_turning += other.with_reason_and_turning;
         self.most_ways = self.most_ways.max(other.most_ways);
         self.trees += other.trees;
         self.calls += other.calls;
@@ -114,6 +123,7 @@ fn programs_at_random() {
 fn verdict_and_ways(machine: &mut Machine, counts: &mut Counts, case: &Case) {
     counts.programs += 1;
     counts.with_reason_and_round += usize::from(case.round && case.verdict == Verdict::Ends);
+    counts.with_reason_and_turning += usize::from(case.turning && case.verdict == Verdict::Ends);
     counts.most_ways = counts.most_ways.max(case.ways.unwrap_or(0));
     assert_eq!(machine.judge(&case.script, MOST_WAYS), case.verdict, "{:?}", case.script);
     assert_eq!(machine.number_of_ways(&case.script, MOST_WAYS), case.ways, "{:?}", case.script);

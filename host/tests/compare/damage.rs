@@ -7,7 +7,7 @@ use crate::machine::{Machine, for_each};
 use crate::random::{self, Random};
 use crate::{program, second};
 
-const CASES: u64 = 120_000;
+const CASES: u64 = 150_000;
 
 #[derive(Default, Debug)]
 struct Counts {
@@ -42,11 +42,11 @@ fn damaged_programs_and_random_bytes() {
 
 fn one(machine: &mut Machine, counts: &mut Counts, seed: u64) {
     let mut random = Random::new(1000 + seed);
-    let script = if seed % 3 == 0 {
+    let script = if seed.is_multiple_of(5) {
         random::bytes(&mut random)
     } else {
         let whole = program::write(&random::program(&mut random));
-        random::damaged(&mut random, &whole)
+        if seed % 5 < 3 { random::nudged(&mut random, &whole) } else { random::damaged(&mut random, &whole) }
     };
     let ways = random.pick(&[0, 1, 2, 7, 60, 300]);
     let verdict = second::judge(&script, ways);
@@ -65,7 +65,8 @@ fn one(machine: &mut Machine, counts: &mut Counts, seed: u64) {
 
 /// A call of the script with trees that may be damaged too; `program` is there if it ends.
 fn called(machine: &mut Machine, counts: &mut Counts, random: &mut Random, script: &[u8], ways: u32, program: Option<program::Program>) {
-    let function = random.below(3);
+    let functions = program.as_ref().map_or(0, Vec::len);
+    let function = if random.percent(95) { random.below(functions.max(1)) } else { random.below(70) };
     let takes = program.as_ref().and_then(|program| program.get(function)).map_or(1, |fun| fun.args);
     let mut args: Vec<u8> = (0..takes).flat_map(|_| tree(random)).collect();
     if random.percent(15) {

@@ -36,12 +36,16 @@ pub fn program(random: &mut Random) -> Program {
     let count = 1 + random.pick(&[0, 0, 0, 1, 1, 1, 2, 2, 3, 5]);
     let arities: Vec<usize> = (0..count).map(|_| random.pick(&[0, 1, 1, 1, 2, 2, 2, 2, 3, 3, 4, 8])).collect();
     let shuffle = random.pick(&[0, 0, 10, 40]);
+    let turn = random.pick(&[0, 0, 1]);
     let size = random.pick(&[4, 8, 12, 20]);
-    arities.iter().map(|&args| {
-        let mut maker = Maker { random, arities: &arities, left: size, shuffle };
-        let view = (0..args).map(|i| Some((i, false))).collect();
-        Fun { args, body: maker.last(view) }
-    }).collect()
+    arities
+        .iter()
+        .map(|&args| {
+            let mut maker = Maker { random, arities: &arities, left: size, shuffle, turn };
+            let view = (0..args).map(|i| Some((i, false))).collect();
+            Fun { args, body: maker.last(view) }
+        })
+        .collect()
 }
 
 /// What is known of a variable: the argument, and whether it is a part of it.
@@ -54,6 +58,8 @@ struct Maker<'a> {
     left: usize,
     /// In how many of a hundred cases a call's argument is any variable.
     shuffle: usize,
+    /// By how many places arguments move in most calls.
+    turn: usize,
 }
 
 impl Maker<'_> {
@@ -91,11 +97,13 @@ impl Maker<'_> {
 
     fn call(&mut self, view: &[Known]) -> Expr {
         let f = self.random.below(self.arities.len());
-        let args = (0..self.arities[f]).map(|j| self.argument(view, j)).collect();
+        let arity = self.arities[f];
+        let turn = if self.random.percent(80) { self.turn } else { 0 };
+        let args = (0..arity).map(|j| self.argument(view, (j + turn) % arity)).collect();
         Expr::Call(f, args)
     }
 
-    /// Argument j of a call: mostly what comes from the caller's argument j.
+    /// An argument of a call: mostly what comes from the caller's argument j.
     fn argument(&mut self, view: &[Known], j: usize) -> Expr {
         let shuffle = self.shuffle;
         if self.random.percent(shuffle) && !view.is_empty() {
@@ -133,18 +141,25 @@ impl Maker<'_> {
     }
 }
 
+/// Bytes of which one is a little more or less: often another program.
+pub fn nudged(random: &mut Random, bytes: &[u8]) -> Vec<u8> {
+    let mut bytes = bytes.to_vec();
+    let at = random.below(bytes.len());
+    bytes[at] = if random.percent(50) { bytes[at].wrapping_add(1) } else { bytes[at].wrapping_sub(1) };
+    bytes
+}
+
 /// Bytes changed in one to three places.
 pub fn damaged(random: &mut Random, bytes: &[u8]) -> Vec<u8> {
     let mut bytes = bytes.to_vec();
     for _ in 0..1 + random.below(3) {
         let at = random.below(bytes.len() + 1);
         let byte = if random.percent(90) { random.below(9) as u8 } else { random.word() as u8 };
-        match random.below(5) {
+        match random.below(4) {
             0 => bytes.insert(at, byte),
             1 => bytes.truncate(at),
             _ if at == bytes.len() => bytes.push(byte),
             2 => drop(bytes.remove(at)),
-            3 => bytes[at] = bytes[at].wrapping_add(1),
             _ => bytes[at] = byte,
         }
     }

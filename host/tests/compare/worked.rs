@@ -93,7 +93,9 @@ fn bad_calls_and_unproved_scripts() {
     assert_eq!(Script::new([]).call(0, &[], limits), Err(Stop::BadCall));
     let mut machine = Machine::default();
     let identity = [1, 0, 0];
-    for (args, answer) in [(&[0][..], Ok((vec![0], 0))), (&[], Err(Stop::BadCall)), (&[0, 0], Err(Stop::BadCall)), (&[1, 0], Err(Stop::BadCall)), (&[2], Err(Stop::BadCall))] {
+    for (args, answer) in
+        [(&[0][..], Ok((vec![0], 0))), (&[], Err(Stop::BadCall)), (&[0, 0], Err(Stop::BadCall)), (&[1, 0], Err(Stop::BadCall)), (&[2], Err(Stop::BadCall))]
+    {
         assert_eq!(machine.go(&identity, 0, Call { function: 0, args, depth: 0, room: 0 }, 1), answer);
     }
 }
