@@ -1,0 +1,9 @@
+pub mod Arguments
+pub mod Fine
+pub mod Laying
+pub mod Listing
+pub mod Parting
+pub mod Standing
+pub mod Stepping
+pub mod Waiting
+pub mod Walking

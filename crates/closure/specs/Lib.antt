@@ -1,0 +1,4 @@
+-- The ways along a call graph as rows of a table.
+pub mod Ways
+pub mod Parts
+pub mod Answers

@@ -1,0 +1,2 @@
+-- What is found out about a script.
+pub mod Verdicts

@@ -1,0 +1,2 @@
+pub mod Origins
+pub mod Views

@@ -1,0 +1,3 @@
+-- Where variables come from, in words.
+pub mod Origins
+pub mod Views
