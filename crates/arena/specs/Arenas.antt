@@ -1,21 +1,18 @@
 -- An arena: nodes in lent words, of which some are used, and a limit to how many are.
-use Prim.Native.Nat.{ℕ, _+_, _*_, _^_, _≤_, _<_}
+use Prim.Native.Nat.{ℕ, _+_, _≤_, _<_}
 use mathlib.Core.Path.{_≡_}
 use mathlib.Core.List.{List}
 use lib.ListN.{length}
 use Rattle.lang.specs.Program.{Tree, node}
-use Rattle.arena.specs.Nodes.{tree, Sound, Grown}
+use Rattle.arena.specs.Nodes.{tree, Sound, Grown, Well as Well-nodes}
 use Rattle.arena.specs.declared.nodes.Arena.{Arena}
 
 abbrev pub words : Arena → List ℕ
 words a = a .nodes .now
 
 -- there are words and numbers for as many nodes as the limit says
-pub record Well (a : Arena) : Type 0 where
-  pub sound : Sound (words a) (a .used)
-  pub under : a .used ≤ a .limit
-  pub room : 2 * a .limit ≤ length (words a)
-  pub numbered : a .limit < 2 ^ 32
+abbrev pub Well : Arena → Type 0
+Well a = Well-nodes (words a) (a .used) (a .limit)
 
 -- no node was made: all the room is used, and nothing has changed
 pub record Full (a a′ : Arena) : Type 0 where

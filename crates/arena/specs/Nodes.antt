@@ -1,5 +1,5 @@
 -- Trees in words: node n ≥ 1 has the number of its left part at 2(n - 1) and that of its right part at 2(n - 1) + 1; number 0 is the leaf.
-use Prim.Native.Nat.{ℕ, zero, suc, _+_, _*_, _≤_, _<_}
+use Prim.Native.Nat.{ℕ, zero, suc, _+_, _*_, _^_, _≤_, _<_}
 use mathlib.Core.Path.{_≡_}
 use mathlib.Core.List.{List, [], _∷_}
 use lib.ListN.{length, getD}
@@ -55,3 +55,10 @@ right-of (node t u) = u
 
 abbrev pub IsNode : Tree → Type 0
 IsNode t = t ≡ node (left-of t) (right-of t)
+
+-- some nodes are used, and there are words and numbers for as many as the limit says
+pub record Well (ws : List ℕ) (used limit : ℕ) : Type 0 where
+  pub sound : Sound ws used
+  pub under : used ≤ limit
+  pub room : 2 * limit ≤ length ws
+  pub numbered : limit < 2 ^ 32

@@ -30,6 +30,7 @@ firsts-all nil zero h = refl
 firsts-all nil (suc n) h = refl
 firsts-all (cons e es) zero h = absurd (omega arith)
 firsts-all (cons e es) (suc n) h = ap (λ (fs : Exprs). cons e fs) (firsts-all es n (omega arith))
+
 pub all-firsts : (p : Prog) (s : List ℕ) (vars at n : ℕ) (es : Exprs) (k : ℕ) → StandingAll p s vars at n es k → firsts n es ≡ es
 all-firsts p s vars at n es k h = firsts-all es n (reads-all-bytes (h .reads) .1)
 
@@ -39,8 +40,10 @@ pub record Argument (ks : List (Option From)) (s ends : List ℕ) (vars at i : �
   pub rest : List ℕ
   pub reads : Reads (drop (hop ends at i) s) argument rest
   pub arcs-more : (j : ℕ) → arcs ks j (firsts (suc i) es) ≡ arcs ks j (firsts i es) ++ arc (j + i) (origin ks argument)
+
 arcs-push : (ks : List (Option From)) (j i : ℕ) (e : Expr) (es : Exprs) (d : Expr) → arcs ks (j + 1) (firsts (suc i) es) ≡ arcs ks (j + 1) (firsts i es) ++ arc ((j + 1) + i) (origin ks d) → arc j (origin ks e) ++ arcs ks (j + 1) (firsts (suc i) es) ≡ (arc j (origin ks e) ++ arcs ks (j + 1) (firsts i es)) ++ arc (j + suc i) (origin ks d)
 arcs-push ks j i e es d h = let q : (j + 1) + i ≡ j + suc i = omega arith in rw (append-assoc, h, q)
+
 pub argument-at : (ks : List (Option From)) (p : Prog) (s ends : List ℕ) → EndsFrom s ends 0 → (vars at n : ℕ) (es : Exprs) (k i : ℕ) → StandingAll p s vars at (i + suc n) es k → Argument ks s ends vars at i es
 argument-at ks p s ends t vars at n es k zero h =
     let e : 0 + suc n ≡ suc n = omega arith in

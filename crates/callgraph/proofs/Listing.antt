@@ -33,6 +33,7 @@ pub record Listed (p : Prog) (s rows : List ℕ) (at f m : ℕ) : Type 0 where
   pub number : f + length others ≡ length p
   pub written : StepRows rows past m
   pub whole : past ++ all-steps f others ≡ call-graph p
+
 pub record Listing (s rows : List ℕ) (at f m : ℕ) : Type 0 where
   pub few : 3 * m ≤ at
   pub within : at ≤ length s
@@ -40,6 +41,7 @@ pub record Listing (s rows : List ℕ) (at f m : ℕ) : Type 0 where
 
 rows-none : (rows : List ℕ) → StepRows rows [] 0
 rows-none rows = record { number = refl; each = λ i s e. let z : _≡_ {A = ℕ} 0 1 = cc in absurd (omega arith) }
+
 pub listing-none : (s rows : List ℕ) → Listing s rows 0 0 0
 listing-none s rows = record { few = omega arith; within = omega arith; listed = λ p h. record { past = []; others = p; there = program-functions s p h; well = fine-parts s p h .2; number = omega arith; written = rows-none rows; whole = refl } }
 
@@ -52,6 +54,7 @@ pub record Function (p : Prog) (s ends : List ℕ) (at : ℕ) (fs : List Fun) : 
   pub are : fs ≡ record { args = getD s at 0; body = body } ∷ others
   pub there : Functions (drop (getD ends (at + 1) 0) s) others
   pub well : T (all-ok p others)
+
 pub function-at : (p : Prog) (s ends : List ℕ) → EndsFrom s ends 0 → (at : ℕ) (fs : List Fun) → at < length s → Functions (drop at s) fs → T (all-ok p fs) → Function p s ends at fs
 function-at p s ends t at fs l h o =
     let q = first-function (subst (λ (xs : List ℕ). Functions xs fs) (drop-more s at 0 l) h) in
@@ -66,6 +69,7 @@ function-at p s ends t at fs l h o =
       there = subst (λ (x : List ℕ). Functions x (q .3)) (e .rest) (q .5);
       well = w .2;
     }
+
 -- its body waits
 pub body-waits : (p : Prog) (s ends views known : List ℕ) (f at : ℕ) (fs : List Fun) → (x : Function p s ends at fs) → (args : ℕ) → args ≡ getD s at 0 → Noted views (at + 1) args 0 0 → in-view known args ≡ given 0 args → Pending p s views known f (getD ends (at + 1) 0) args (at + 1) (steps f (given 0 (getD s at 0)) (x .body) ++ [])
 body-waits p s ends views known f at fs x args e n g =
@@ -82,6 +86,7 @@ pub record At (s ends : List ℕ) (at f : ℕ) : Type 0 where
   pub functions : List Fun
   pub function : Function program s ends at functions
   pub below : f < 64
+
 pub listing-at : {s rows : List ℕ} {at f m : ℕ} (ends : List ℕ) → EndsFrom s ends 0 → Listing s rows at f m → at < length s → (p : Prog) × Program s p → At s ends at f
 listing-at {s} {rows} {at} {f} {m} ends t h l q =
     let x = h .listed (q .0) (q .1) in
@@ -90,6 +95,7 @@ listing-at {s} {rows} {at} {f} {m} ends t h l q =
     let b = x .number in
     let c = fine-parts s (q .0) (q .1) .1 in
     record { program = q .0; size = c; functions = x .others; function = y; below = omega arith }
+
 pub listing-turn : {s rows : List ℕ} {at f m : ℕ} (ends : List ℕ) → EndsFrom s ends 0 → Listing s rows at f m → at < length s → (views known rows₁ : List ℕ) (args m₁ : ℕ) → args ≡ getD s at 0 → Noted views (at + 1) args 0 0 → in-view known args ≡ given 0 args → 3 * m₁ ≤ getD ends (at + 1) 0 → getD ends (at + 1) 0 ≤ length s → ((p : Prog) (b : ℕ) (ss done : List Step) → Pending p s views known f (getD ends (at + 1) 0) b (at + 1) ss → StepRows rows done m → StepRows rows₁ (done ++ ss) m₁) → Listing s rows₁ (getD ends (at + 1) 0) (f + 1) m₁
 listing-turn {s} {rows} {at} {f} {m} ends t h l views known rows₁ args m₁ e n g few within visit = record { few = few; within = within; listed = listed }
   where
@@ -110,16 +116,20 @@ listing-turn {s} {rows} {at} {f} {m} ends t h l views known rows₁ args m₁ e 
           written = subst (λ (ts : List Step). StepRows rows₁ (x .past ++ ts) m₁) (append-nil mine) w;
           whole = append-assoc (x .past) mine (all-steps (f + 1) (y .others)) ∙ (ap (λ (fs : List Fun). x .past ++ all-steps f fs) (sym (y .are)) ∙ x .whole);
         }
+
 functions-none : {xs : List ℕ} {fs : List Fun} → Functions xs fs → xs ≡ [] → fs ≡ []
 functions-none f-none e = refl
 functions-none (f-more l r h) e = let z : _≡_ {A = ℕ} 0 1 = cc in absurd (omega arith)
+
 pub listing-done : {s rows : List ℕ} {at f m : ℕ} → Listing s rows at f m → length s ≤ at → (p : Prog) → Program s p → StepRows rows (call-graph p) m
 listing-done {s} {rows} {at} {f} {m} h l p q =
     let x = h .listed p q in
     let e = functions-none (x .there) (drop-all at s l) in
     let w : x .past ≡ call-graph p = sym (append-nil (x .past)) ∙ (ap (λ (fs : List Fun). x .past ++ all-steps f fs) (sym e) ∙ x .whole) in
     subst (λ (ts : List Step). StepRows rows ts m) w (x .written)
+
 pub at-reads : {s ends : List ℕ} {at f : ℕ} → At s ends at f → ReadsAt s (at + 1)
 at-reads {s} {ends} {at} x = record { expression = x .function .body; rest = drop (getD ends (at + 1) 0) s; reads = x .function .stands .reads }
+
 pub at-walk : {s ends : List ℕ} {at f : ℕ} (x : At s ends at f) → (views known : List ℕ) (args : ℕ) → args ≡ getD s at 0 → Noted views (at + 1) args 0 0 → in-view known args ≡ given 0 args → Walk s views known f (getD ends (at + 1) 0) (at + 1)
 at-walk {s} {ends} {at} {f} x views known args e n g = record { program = x .program; few = x .size; reads = at-reads x; bound = args; their-steps = _; waiting = body-waits (x .program) s ends views known f at (x .functions) (x .function) args e n g }

@@ -34,13 +34,15 @@ rows-push : (rows rows₁ : List ℕ) (done : List Step) (s : Step) (m : ℕ) �
 rows-push rows rows₁ done s m h o q = record {
   number = let a = length-append done (s ∷ []) in let b = h .number in omega arith;
   each = λ i t e. ⊎-elim
-    (λ r. let l = nth-below done i r in let b = h .number in subst (λ (w : Row). StepRow w i t) (sym (o i (λ z. omega arith) .row)) (h .each i t r))
-    (λ r. let b = h .number in subst (λ (j : ℕ). StepRow (row-at rows₁ j) j t) (sym (r .0 ∙ b)) (subst (λ (u : Step). StepRow (row-at rows₁ m) m u) (r .1) q))
-    (nth-push done s i e)
+      (λ r. let l = nth-below done i r in let b = h .number in subst (λ (w : Row). StepRow w i t) (sym (o i (λ z. omega arith) .row)) (h .each i t r))
+      (λ r. let b = h .number in subst (λ (j : ℕ). StepRow (row-at rows₁ j) j t) (sym (r .0 ∙ b)) (subst (λ (u : Step). StepRow (row-at rows₁ m) m u) (r .1) q))
+      (nth-push done s i e);
 }
+
 pub rows-one : (rows rows₁ : List ℕ) (m : ℕ) (e : Edge) → row-at rows₁ m ≡ record { edge = e; from = 0; step = m } → ((j : ℕ) → (j ≡ m → ⊥) → Same-row rows rows₁ j) → (done ss : List Step) → StepRows rows done m → OneStep ss (Some e) → StepRows rows₁ (done ++ ss) (m + 1)
 rows-one rows rows₁ m e r o done ss h q =
     subst (λ (ts : List Step). StepRows rows₁ (done ++ ts) (m + 1)) (sym (q .1)) (rows-push rows rows₁ done (q .0) m h o (subst (λ (w : Row). StepRow w m (q .0)) (sym r) (record { step = q .2; from-none = refl; number-is = refl })))
+
 pub rows-same : (rows : List ℕ) (m : ℕ) (done ss : List Step) → StepRows rows done m → ss ≡ [] → StepRows rows (done ++ ss) m
 rows-same rows m done ss h e = subst (λ (ts : List Step). StepRows rows ts m) (sym (ap (λ (ts : List Step). done ++ ts) e ∙ append-nil done)) h
 
@@ -49,6 +51,7 @@ takes-below : (p : List Fun) (f n : ℕ) → T (takes (nth p f) n) → f < lengt
 takes-below [] f n h = elim h [ ]
 takes-below (g ∷ p) zero n h = omega arith
 takes-below (g ∷ p) (suc f) n h = let i = takes-below p f n h in omega arith
+
 pub callee-below : (s : List ℕ) (vars at g n : ℕ) → HeadAt s at (Some (Call g n)) → Stands s vars at → (g < 64) × (n ≤ 8)
 callee-below s vars at g n a h =
     let c = call-all (h .program) s vars at g n a (h .expression) (h .end) (h .there) in
@@ -62,6 +65,7 @@ pub call-step : (ks : List (opt.Option From)) (p : Prog) (s : List ℕ) (vars at
 call-step ks p s vars at f g n a r w e k h =
     let c = call-all p s vars at g n a e k h in
     (record { caller = f; callee = g; arcs = arcs ks 0 (c .0) }, ap (λ (d : Expr). own f ks d) (c .1), record { caller-is = refl; callee-is = refl; graph-is = w p (c .0) k (c .3) })
+
 no-own : (f : ℕ) (ks : List (opt.Option From)) {h : Head} {xs zs : List ℕ} {e : Expr} → ((g n : ℕ) → h ≡ Call g n → ⊥) → Goes h xs e zs → own f ks e ≡ []
 no-own f ks n g-var = refl
 no-own f ks n g-leaf = refl
@@ -69,6 +73,7 @@ no-own f ks n (g-node q) = refl
 no-own f ks n (g-parts q) = refl
 no-own f ks n (g-bind q) = refl
 no-own f ks n (g-call {f = g} {n = m} l q) = absurd (n g m refl)
+
 pub no-step : (ks : List (opt.Option From)) (p : Prog) (s : List ℕ) (vars at f : ℕ) (h : Head) → HeadAt s at (Some h) → ((g n : ℕ) → h ≡ Call g n → ⊥) → (e : Expr) (k : ℕ) → Standing p s vars at e k → own f ks e ≡ []
 no-step ks p s vars at f h a n e k q = no-own f ks n (goes-at s at h a (q .reads))
 

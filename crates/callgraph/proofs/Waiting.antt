@@ -64,6 +64,7 @@ pub record Next (p : Prog) (s views known : List ℕ) (f end b at : ℕ) (ss : L
   pub waits : Waits p s views b at expression after
   pub rest : Pending p s views known f end (outer-at views at) after later
   pub are : ss ≡ steps f (seen known views at) expression ++ later
+
 pub pending-next : (p : Prog) (s views known : List ℕ) (f end : ℕ) {b at : ℕ} {ss : List Step} → at < end → Pending p s views known f end b at ss → Next p s views known f end b at ss
 pending-next p s views known f end l p-none = absurd (omega arith)
 pending-next p s views known f end l (p-more {k = k} {e = e} {ss = ss} x r) = record { expression = e; after = k; later = ss; waits = x; rest = r; are = refl }

@@ -25,6 +25,7 @@ pub record Going (p : Prog) (s rows₀ : List ℕ) (m₀ : ℕ) (views known row
   pub waiting : Pending p s views known f end bound at rest
   pub whole : past ++ rest ≡ ss
   pub written : (done : List Step) → StepRows rows₀ done m₀ → StepRows rows (done ++ past) m
+
 -- so it is for whatever waited at first, and each step took three bytes
 pub record Walking (s views₀ known₀ rows₀ : List ℕ) (f end at₀ m₀ : ℕ) (views known rows : List ℕ) (at m : ℕ) : Type 0 where
   pub few : 3 * m ≤ at
@@ -38,6 +39,7 @@ going-done p s rows₀ m₀ views known rows f end at m ss g l done h =
     let e = pending-done p s views known f end l (g .waiting) in
     let w : g .past ≡ ss = sym (append-nil (g .past)) ∙ (ap (λ (ts : List Step). g .past ++ ts) (sym e) ∙ g .whole) in
     subst (λ (ts : List Step). StepRows rows (done ++ ts) m) w (g .written done h)
+
 pub going-before : (p : Prog) (s rows₀ : List ℕ) (m₀ : ℕ) (views known rows : List ℕ) (f end at m : ℕ) (ss : List Step) → Going p s rows₀ m₀ views known rows f end at m ss → at ≤ end
 going-before p s rows₀ m₀ views known rows f end at m ss g = pending-before p s views known f end (g .waiting)
 
@@ -81,6 +83,7 @@ pub record Here (s views : List ℕ) (at : ℕ) : Type 0 where
   pub room : outer-at views at + new-at views at ≤ 8 + at
   pub stands : Stands s (outer-at views at + new-at views at) at
   pub below : at < length s
+
 pub here : {s views₀ known₀ rows₀ : List ℕ} {f end at₀ m₀ : ℕ} {views known rows : List ℕ} {at m k : ℕ} → Walking s views₀ known₀ rows₀ f end at₀ m₀ views known rows at m → at < end → end ≡ k → Walk s views₀ known₀ f k at₀ → Here s views at
 here {s} {views₀} {known₀} {rows₀} {f} {end} {at₀} {m₀} {views} {known} {rows} {at} h l e w =
     let g = h .going (w .program) (w .bound) (w .their-steps) (subst (λ (j : ℕ). Pending (w .program) s views₀ known₀ f j (w .bound) at₀ (w .their-steps)) (sym e) (w .waiting)) in
@@ -95,5 +98,6 @@ here {s} {views₀} {known₀} {rows₀} {f} {end} {at₀} {m₀} {views} {known
       stands = record { program = w .program; few = w .few; expression = x .expression; end = x .after; there = y .stands };
       below = omega arith;
     }
+
 pub walking-turn : {s views₀ known₀ rows₀ : List ℕ} {f end at₀ m₀ : ℕ} {views known rows : List ℕ} {at m : ℕ} → Walking s views₀ known₀ rows₀ f end at₀ m₀ views known rows at m → at < end → (known₁ views₁ rows₁ : List ℕ) (vars o n w m₁ inside : ℕ) (step : Option Edge) → Opened views at known known₁ vars o n w → ((q : Prog) (e : Expr) (k : ℕ) → Standing q s vars at e k → OneStep (own f (in-view known₁ vars) e) step) → ((done ts : List Step) → StepRows rows done m → OneStep ts step → StepRows rows₁ (done ++ ts) m₁) → Parts-wait s vars at inside known₁ views views₁ → 3 * m₁ ≤ inside → Walking s views₀ known₀ rows₀ f end at₀ m₀ views₁ known₁ rows₁ inside m₁
 walking-turn {s} {views₀} {known₀} {rows₀} {f} {end} {at₀} {m₀} {views} {known} {rows} {at} {m} h l known₁ views₁ rows₁ vars o n w m₁ inside step q one push parts few = record { few = few; going = λ p b ss x. going-turn p s rows₀ m₀ views known rows f end at m ss (h .going p b ss x) l known₁ views₁ rows₁ vars o n w m₁ inside step q one push parts }

@@ -18,6 +18,7 @@ own f ks (a-node a b) = []
 own f ks (parts i a b) = []
 own f ks (bind a b) = []
 own f ks (call g es) = record { caller = f; callee = g; arcs = arcs ks 0 es } ∷ []
+
 abbrev pub inner : ℕ → List (Option From) → Expr → List Step
 inner f ks (var i) = []
 inner f ks a-leaf = []
@@ -32,6 +33,7 @@ pub record Waits (p : Prog) (s views : List ℕ) (b at : ℕ) (e : Expr) (k : �
   pub around : outer-at views at ≤ b
   pub few : new-at views at ≤ 2
   pub room : outer-at views at + new-at views at ≤ max-args + at
+
 -- expressions wait one after the other from a place to the end of a body of function f, and ss are their steps.
 -- None has more variables around it than those before it, so that what comes into view for one is not around a later one.
 pub data Pending (p : Prog) (s views known : List ℕ) (f end : ℕ) : ℕ → ℕ → List Step → Type 0 where
@@ -41,6 +43,7 @@ pub data Pending (p : Prog) (s views known : List ℕ) (f end : ℕ) : ℕ → �
 -- with the expression at a place visited, its parts wait from `inside` on
 abbrev pub Parts-wait : List ℕ → ℕ → ℕ → ℕ → List ℕ → List ℕ → List ℕ → Type 0
 Parts-wait s vars at inside known views views₁ = (p : Prog) (f end : ℕ) (e : Expr) (k : ℕ) (ss : List Step) → Standing p s vars at e k → Pending p s views known f end vars k ss → Pending p s views₁ known f end vars inside (inner f (in-view known vars) e ++ ss)
+
 -- some expressions of a program wait from a place on, where one stands
 pub record Walk (s views known : List ℕ) (f end at : ℕ) : Type 0 where
   pub program : Prog

@@ -1,9 +1,10 @@
-ghost use Prim.Native.Nat.{ℕ, _*_, _/_, _<_, _≤_};
+ghost use Prim.Native.Nat.{ℕ, _*_, _<_, _≤_};
 ghost use Rattle.callgraph.specs.Pending.{Pending, Walk};
 ghost use Rattle.callgraph.specs.Standing.{Room};
-ghost use Rattle.callgraph.specs.StepRows.{StepRows};
+ghost use Rattle.callgraph.specs.StepRows.{StepRows, most-steps};
 ghost use Rattle.lang.specs.Program.{Prog};
 ghost use Rattle.sizechange.specs.Graph.{Step};
+ghost use Rattle.table.specs.Rows.{points, width};
 ghost use lib.ListN.{getD, length};
 ghost use mathlib.Core.List.{List, _++_};
 use super::expressions::end_of;
@@ -15,10 +16,19 @@ use origins::view::open;
 use origins::view::view_at;
 
 /// Visits the expressions of a body in the order of their bytes and writes their steps after the first m rows; gives how many rows there are after.
-pub fn visit_body(bytes: &[u8], ends: &[u32], known: &mut [u32], views: &mut [u32], rows: &mut [u32], caller: u32, mut at: usize, mut m: usize) -> usize
+pub fn visit_body(
+    bytes: &[u8],
+    ends: &[u32],
+    known: &mut [u32],
+    views: &mut [u32],
+    rows: &mut [u32],
+    caller: u32,
+    mut at: usize,
+    mut m: usize,
+) -> usize
     requires room { ⌜ Room (now bytes) (now ends) (length (now known)) (length (now views)) ⌝ }
-    requires rows { ⌜ 8 * (length (now bytes) / 3) ≤ length (now rows) ⌝ }
-    requires caller { ⌜ caller < 64 ⌝ }
+    requires rows { ⌜ width * most-steps (length (now bytes)) ≤ length (now rows) ⌝ }
+    requires caller { ⌜ caller < points ⌝ }
     requires few { ⌜ 3 * m ≤ at ⌝ }
     requires walk { ⌜ Walk (now bytes) (now views) (now known) caller (getD (now ends) at 0) at ⌝ }
     ensures few { λ r. ⌜ 3 * r ≤ getD (now (ends .entry)) at 0 ⌝ }

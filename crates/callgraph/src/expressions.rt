@@ -1,7 +1,7 @@
 ghost use Prim.Native.Nat.{ℕ, _+_, _<_, _≤_};
 ghost use Rattle.callgraph.specs.Standing.{ReadsAt, StandAll, StandingAll, Stands};
 ghost use Rattle.graphs.specs.Words.{Words};
-ghost use Rattle.lang.specs.Program.{Expr, Exprs, Prog};
+ghost use Rattle.lang.specs.Program.{Expr, Exprs, Prog, max-args};
 ghost use Rattle.lang.specs.Reads.{Reads};
 ghost use Rattle.lang.specs.Steps.{arcs, origin as origin-in};
 ghost use Rattle.origins.specs.Origins.{from-of, in-view};
@@ -58,7 +58,7 @@ pub fn graph_of(bytes: &[u8], ends: &[u32], known: &[u32], vars: u32, at: usize,
     requires table { ⌜ length (now bytes) ≤ length (now ends) ⌝ }
     requires stand { ⌜ StandAll (now bytes) vars at n ⌝ }
     requires within { ⌜ vars ≤ length (now known) ⌝ }
-    requires few { ⌜ n ≤ 8 ⌝ }
+    requires few { ⌜ n ≤ max-args ⌝ }
     ensures { λ r. ⌜ ((p : Prog) (es : Exprs) (k : ℕ) → StandingAll p (now (bytes .entry)) vars at n es k → Words r (arcs (in-view (now (known .entry)) vars) 0 es)) ⌝ }
 {
     let mut graph = Graph::none();

@@ -1,7 +1,8 @@
 //! The call graph of a script: each call as a step from function to function, with its size-change graph, in rows of words.
-ghost use Prim.Native.Nat.{ℕ, _*_, _/_, _≤_};
+ghost use Prim.Native.Nat.{ℕ, _*_, _≤_};
 ghost use Rattle.callgraph.specs.Standing.{Room};
-ghost use Rattle.callgraph.specs.StepRows.{StepRows};
+ghost use Rattle.callgraph.specs.StepRows.{StepRows, most-steps};
+ghost use Rattle.table.specs.Rows.{width};
 ghost use Rattle.lang.specs.Bytes.{Program};
 ghost use Rattle.lang.specs.Program.{Prog};
 ghost use Rattle.lang.specs.Steps.{call-graph};
@@ -11,6 +12,7 @@ mod body;
 mod expressions;
 mod notes;
 mod steps;
+
 use body::visit_body;
 use expressions::end_of;
 use notes::plain;
@@ -19,11 +21,17 @@ use origins::view::note;
 
 /// Writes the steps of a program as rows, in the order of its bytes; gives how many there are.
 /// The words for what is known of variables and for notes are used up.
-pub fn list_steps(bytes: &[u8], ends: &[u32], known: &mut [u32], views: &mut [u32], rows: &mut [u32]) -> usize
+pub fn list_steps(
+    bytes: &[u8],
+    ends: &[u32],
+    known: &mut [u32],
+    views: &mut [u32],
+    rows: &mut [u32],
+) -> usize
     requires program { ⌜ ((p : Prog) × Program (now bytes) p) ⌝ }
     requires room { ⌜ Room (now bytes) (now ends) (length (now known)) (length (now views)) ⌝ }
-    requires rows { ⌜ 8 * (length (now bytes) / 3) ≤ length (now rows) ⌝ }
-    ensures few { λ r. ⌜ 3 * r ≤ length (now (bytes .entry)) ⌝ }
+    requires rows { ⌜ width * most-steps (length (now bytes)) ≤ length (now rows) ⌝ }
+    ensures few { λ r. ⌜ r ≤ most-steps (length (now (bytes .entry))) ⌝ }
     ensures steps { λ r. ⌜ ((p : Prog) → Program (now (bytes .entry)) p → StepRows (now (rows .exit)) (call-graph p) r) ⌝ }
 {
     let mut at = 0;

@@ -1,6 +1,7 @@
 ghost use Prim.Native.Nat.{ℕ, _+_, _*_, _^_, _<_, _≤_};
 ghost use Rattle.callgraph.specs.Pending.{Parts-wait};
 ghost use Rattle.callgraph.specs.Standing.{Room, StandAll, Stands, hop};
+ghost use Rattle.lang.specs.Program.{max-args};
 ghost use Rattle.origins.specs.Views.{Noted, Same-note};
 ghost use Rattle.reading.specs.Ends.{EndsFrom};
 ghost use Rattle.reading.specs.Heads.{HeadAt, widthOf};
@@ -63,11 +64,19 @@ pub fn note_all(bytes: &[u8], ends: &[u32], views: &mut [u32], at: usize, n: u8,
 }
 
 /// Notes what the parts of the expression at a place see.
-pub fn note_parts(bytes: &[u8], ends: &[u32], known: &[u32], views: &mut [u32], at: usize, head: Head, vars: u32)
+pub fn note_parts(
+    bytes: &[u8],
+    ends: &[u32],
+    known: &[u32],
+    views: &mut [u32],
+    at: usize,
+    head: Head,
+    vars: u32,
+)
     requires room { ⌜ Room (now bytes) (now ends) (length (now known)) (length (now views)) ⌝ }
     requires head { ⌜ HeadAt (now bytes) at (Some head) ⌝ }
     requires stands { ⌜ Stands (now bytes) vars at ⌝ }
-    requires few { ⌜ vars ≤ 8 + at ⌝ }
+    requires few { ⌜ vars ≤ max-args + at ⌝ }
     ensures { λ _. ⌜ Parts-wait (now (bytes .entry)) vars at (at + widthOf head) (now (known .entry)) (now (views .entry)) (now (views .exit)) ⌝ }
 {
     let inside = at + head.width();
@@ -76,11 +85,31 @@ pub fn note_parts(bytes: &[u8], ends: &[u32], known: &[u32], views: &mut [u32], 
         Head::Node => note_two(ends, views, inside, vars, plain(vars)),
         Head::Parts(i) => {
             let origin = origin_at(known, vars, i as u32).part();
-            note_two(ends, views, inside, vars, View { outer: vars, new: 2, origin });
+            note_two(
+                ends,
+                views,
+                inside,
+                vars,
+                View {
+                    outer: vars,
+                    new: 2,
+                    origin,
+                },
+            );
         }
         Head::Bind => {
             let origin = origin_of(bytes, known, vars, inside);
-            note_two(ends, views, inside, vars, View { outer: vars, new: 1, origin });
+            note_two(
+                ends,
+                views,
+                inside,
+                vars,
+                View {
+                    outer: vars,
+                    new: 1,
+                    origin,
+                },
+            );
         }
         Head::Call(_, n) => note_all(bytes, ends, views, inside, n, vars),
     }

@@ -1,9 +1,9 @@
 -- The table is all the ways, and what it shows of them.
-use mathlib.Core.Path.{_≡_, refl, sym, _∙_, ap, subst, subst₂}
-use mathlib.Core.Logic.{_⊎_, inl, inr}
+use mathlib.Core.Path.{_≡_, sym, _∙_, ap, subst, subst₂}
+use mathlib.Core.Logic.{inl, inr}
 use mathlib.Core.List.{List}
 use mathlib.Core.Option.{some}
-use Prim.Native.Nat.{ℕ, zero, suc, _+_, _<_, _≤_}
+use Prim.Native.Nat.{ℕ, _<_, _≤_}
 use native.Mathlib.Omega.{arith}
 use lib.ListN.{length}
 use Rattle.sizechange.specs.Graph.{Step, In, nth, Has-reason, Way1, Ways}
@@ -12,7 +12,7 @@ use Rattle.table.specs.declared.Edge.{Edge}
 use Rattle.table.specs.declared.Row.{Row}
 use Rattle.table.specs.Rows.{edge-of, row-at, rows}
 use Rattle.table.proofs.Rows.{length-rows, in-rows, rows-in, nth-rows, rows-nth, rows-ends}
-use Rattle.closure.specs.Ways.{Then, Upto, Grown, Goes-on, Complete, Steps-of, Ways-of, Sound, Fails}
+use Rattle.closure.specs.Ways.{Then, Upto, Grown, Goes-on, Complete, Step-rows, Way-rows, Sound, Fails}
 use Rattle.closure.specs.Parts.{Entered, Followed, Kept, caller}
 use Rattle.closure.specs.Answers.{Whole}
 use Rattle.closure.proofs.Ways.{all-ways, many, each-length, sound-reason, fails-no-reason}
@@ -48,13 +48,13 @@ whole st n limit xs first m ys r p e le f lr kept =
     let c = complete st n limit xs first ys r e le (subst (λ (k : ℕ). Followed (rows st n) k r limit ys r) p f) lr kept in
     record { fits = lr; grown = f .grown; complete = c; ways = λ ss steps. let (ws, all, stand) = all-ways steps (rows-ends st n) (f .grown) c in (ws, all, sym (each-length stand) ∙ length-rows ys r, stand) }
 
-pub over : (st : List ℕ) (n limit : ℕ) (xs : List ℕ) (r : ℕ) → Grown (rows st n) (rows xs r) → limit < r → (ss : List Step) → Steps-of (rows st n) ss → (ws : List Way1) × Ways ss ws × (limit < length ws)
+pub over : (st : List ℕ) (n limit : ℕ) (xs : List ℕ) (r : ℕ) → Grown (rows st n) (rows xs r) → limit < r → (ss : List Step) → Step-rows (rows st n) ss → (ws : List Way1) × Ways ss ws × (limit < length ws)
 over st n limit xs r g l ss steps = let (ws, all, le) = many steps (rows-ends st n) g in (ws, all, omega (arith, le, length-rows xs r))
 
 -- The reason, from the rows.
 
-pub table-sound : (xs : List ℕ) (n : ℕ) (ss : List Step) (ws : List Way1) → Fine 64 8 ss → Ways ss ws → Ways-of (rows xs n) ws → ((j : ℕ) → j < n → Sound (edge-of xs j)) → Has-reason ss
+pub table-sound : (xs : List ℕ) (n : ℕ) (ss : List Step) (ws : List Way1) → Fine 64 8 ss → Ways ss ws → Way-rows (rows xs n) ws → ((j : ℕ) → j < n → Sound (edge-of xs j)) → Has-reason ss
 table-sound xs n ss ws fine all stand sound = sound-reason fine all stand (λ j r at. let (l, is) = rows-nth xs n j at in subst (λ (q : Row). Sound (q .edge)) is (sound j l))
 
-pub table-fails : (xs : List ℕ) (n k : ℕ) (ss : List Step) (ws : List Way1) → Fine 64 8 ss → Ways ss ws → Ways-of (rows xs n) ws → k < n → Fails (edge-of xs k) → Has-reason ss → ⊥
+pub table-fails : (xs : List ℕ) (n k : ℕ) (ss : List Step) (ws : List Way1) → Fine 64 8 ss → Ways ss ws → Way-rows (rows xs n) ws → k < n → Fails (edge-of xs k) → Has-reason ss → ⊥
 table-fails xs n k ss ws fine all stand l f = fails-no-reason k (row-at xs k) fine all stand (nth-rows xs n k l) f

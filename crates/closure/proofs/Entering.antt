@@ -1,17 +1,16 @@
 -- The steps are entered one by one.
-use mathlib.Core.Path.{_≡_, refl, sym, _∙_, ap, subst}
+use mathlib.Core.Path.{_≡_, sym, _∙_, ap, subst}
 use mathlib.Core.Logic.{_⊎_, inl, inr}
 use mathlib.Core.List.{List}
 use mathlib.Core.Option.{some}
-use Prim.Native.Nat.{ℕ, zero, suc, _+_, _<_, _≤_}
+use Prim.Native.Nat.{ℕ, _+_, _<_, _≤_}
 use native.Mathlib.Omega.{arith}
-use lib.ListN.{length}
 use Rattle.std.proofs.shelf.Tests.{cases-eq}
 use Rattle.sizechange.specs.Graph.{In, nth}
 use Rattle.table.specs.declared.Row.{Row}
-use Rattle.table.specs.Rows.{row-at, rows}
+use Rattle.table.specs.Rows.{rows}
 use Rattle.table.specs.Index.{Added}
-use Rattle.closure.specs.Ways.{Made, begun, Before, Upto, Grown, nothing}
+use Rattle.closure.specs.Ways.{begun, Before, Upto, nothing}
 use Rattle.closure.specs.Parts.{Entered}
 use Rattle.closure.proofs.Growing.{grown-added, added-in, in-added, added-has}
 

@@ -3,7 +3,7 @@ use mathlib.Core.Path.{_≡_, refl, sym, _∙_, ap, subst, subst₂}
 use mathlib.Core.Logic.{_⊎_, inl, inr}
 use mathlib.Core.List.{List}
 use mathlib.Core.Option.{some}
-use Prim.Native.Nat.{ℕ, zero, suc, _+_, _<_, _≤_}
+use Prim.Native.Nat.{ℕ, suc, _+_, _<_, _≤_}
 use native.Mathlib.Omega.{arith}
 use native.Mathlib.Numerals.{add-one}
 use lib.ListN.{length, getD}
@@ -12,9 +12,9 @@ use Rattle.sizechange.specs.Graph.{In, nth}
 use Rattle.table.specs.declared.Edge.{Edge}
 use Rattle.table.specs.declared.Row.{Row}
 use Rattle.table.specs.Rows.{edge-of, row-at, rows}
-use Rattle.table.specs.Index.{Added}
-use Rattle.closure.specs.Ways.{Then, Made, gone-on, Before, Upto, Grown, Goes-on}
-use Rattle.closure.specs.Parts.{Chained-within, First, Linked, Followed, Kept, caller}
+use Rattle.table.specs.Index.{Added, Chained}
+use Rattle.closure.specs.Ways.{Then, Made, gone-on, Before, Grown, Goes-on}
+use Rattle.closure.specs.Parts.{First, Linked, Followed, Kept, caller}
 use Rattle.closure.proofs.Linking.{linked-kept}
 use Rattle.table.proofs.Rows.{nth-rows}
 use Rattle.closure.proofs.Growing.{grown-added, grown-before, grown-step, added-in, in-added, added-has}
@@ -108,7 +108,7 @@ following-more ts first k s s′ limit xs ys count r row f lk few fits ls meets 
 
 -- A turn of the loop, with what it holds; ws are the words and n₀ the rows before the first.
 pub record Turn (ws : List ℕ) (n₀ k limit : ℕ) (starts nexts : List ℕ) (way : Edge) (xs heads : List ℕ) (count s : ℕ) : Type 0 where
-  pub chained : Chained-within limit xs heads count
+  pub chained : count ≤ limit → Chained xs heads count
   pub linked : Linked 0 (length nexts) xs starts nexts
   pub kept : Kept ws n₀ xs
   pub more : n₀ ≤ count
@@ -117,7 +117,7 @@ pub record Turn (ws : List ℕ) (n₀ k limit : ℕ) (starts nexts : List ℕ) (
   pub meets : s < length nexts → caller xs s ≡ way .callee
   pub following : (ts : List Row) → Followed ts (length nexts) k limit ws n₀ → Following ts (length nexts) k s limit xs count
 
-pub turn-none : (ws : List ℕ) (n₀ k limit : ℕ) (starts nexts : List ℕ) (way : Edge) (heads : List ℕ) → Chained-within limit ws heads n₀ → Linked 0 (length nexts) ws starts nexts → n₀ ≤ limit + 1 → way ≡ edge-of ws k → way .callee < 64 → Turn ws n₀ k limit starts nexts way ws heads n₀ (getD starts (way .callee) 0)
+pub turn-none : (ws : List ℕ) (n₀ k limit : ℕ) (starts nexts : List ℕ) (way : Edge) (heads : List ℕ) → (n₀ ≤ limit → Chained ws heads n₀) → Linked 0 (length nexts) ws starts nexts → n₀ ≤ limit + 1 → way ≡ edge-of ws k → way .callee < 64 → Turn ws n₀ k limit starts nexts way ws heads n₀ (getD starts (way .callee) 0)
 turn-none ws n₀ k limit starts nexts way heads c l most is lc =
     let s = l .starts-first (way .callee) lc in
     record {
@@ -132,7 +132,7 @@ turn-none ws n₀ k limit starts nexts way heads c l most is lc =
     }
 
 -- `last` is the row of the step taken
-pub turn-more : (ws : List ℕ) (n₀ k limit : ℕ) (starts nexts : List ℕ) (way : Edge) (xs heads : List ℕ) (count s : ℕ) (ys heads′ : List ℕ) (r : ℕ) (last row : Row) → Turn ws n₀ k limit starts nexts way xs heads count s → k < n₀ → length nexts ≤ n₀ → count ≤ limit → s < length nexts → last ≡ row-at xs s → Then way (last .edge) (row .edge) → row .from ≡ k + 1 → row .step ≡ last .step → Chained-within limit ys heads′ r → Added (rows xs count) row (rows ys r) → Kept xs count ys → count ≤ r → r ≤ count + 1 → Turn ws n₀ k limit starts nexts way ys heads′ r (getD nexts s 0)
+pub turn-more : (ws : List ℕ) (n₀ k limit : ℕ) (starts nexts : List ℕ) (way : Edge) (xs heads : List ℕ) (count s : ℕ) (ys heads′ : List ℕ) (r : ℕ) (last row : Row) → Turn ws n₀ k limit starts nexts way xs heads count s → k < n₀ → length nexts ≤ n₀ → count ≤ limit → s < length nexts → last ≡ row-at xs s → Then way (last .edge) (row .edge) → row .from ≡ k + 1 → row .step ≡ last .step → (r ≤ limit → Chained ys heads′ r) → Added (rows xs count) row (rows ys r) → Kept xs count ys → count ≤ r → r ≤ count + 1 → Turn ws n₀ k limit starts nexts way ys heads′ r (getD nexts s 0)
 turn-more ws n₀ k limit starts nexts way xs heads count s ys heads′ r last row t lk few fits ls is-last go from step chained added kept more most =
     record {
       chained = chained;
@@ -153,7 +153,7 @@ turn-more ws n₀ k limit starts nexts way xs heads count s ys heads′ r last r
 
 -- The table from way to way.
 pub record Going (ws : List ℕ) (n₀ limit : ℕ) (starts nexts xs heads : List ℕ) (count k : ℕ) : Type 0 where
-  pub chained : Chained-within limit xs heads count
+  pub chained : count ≤ limit → Chained xs heads count
   pub linked : Linked 0 (length nexts) xs starts nexts
   pub kept : Kept ws n₀ xs
   pub more : n₀ ≤ count
@@ -161,7 +161,7 @@ pub record Going (ws : List ℕ) (n₀ limit : ℕ) (starts nexts xs heads : Lis
   pub here : k ≤ count
   pub followed : (ts : List Row) → Followed ts (length nexts) 0 limit ws n₀ → Followed ts (length nexts) k limit xs count
 
-pub going-more : (ws : List ℕ) (n₀ limit : ℕ) (starts nexts xs heads : List ℕ) (count k : ℕ) (ys heads′ : List ℕ) (r : ℕ) → Going ws n₀ limit starts nexts xs heads count k → length nexts ≤ n₀ → k < count → Chained-within limit ys heads′ r → Kept xs count ys → count ≤ r → r ≤ limit + 1 → ((ts : List Row) → Followed ts (length nexts) k limit xs count → Followed ts (length nexts) (k + 1) limit ys r) → Going ws n₀ limit starts nexts ys heads′ r (k + 1)
+pub going-more : (ws : List ℕ) (n₀ limit : ℕ) (starts nexts xs heads : List ℕ) (count k : ℕ) (ys heads′ : List ℕ) (r : ℕ) → Going ws n₀ limit starts nexts xs heads count k → length nexts ≤ n₀ → k < count → (r ≤ limit → Chained ys heads′ r) → Kept xs count ys → count ≤ r → r ≤ limit + 1 → ((ts : List Row) → Followed ts (length nexts) k limit xs count → Followed ts (length nexts) (k + 1) limit ys r) → Going ws n₀ limit starts nexts ys heads′ r (k + 1)
 going-more ws n₀ limit starts nexts xs heads count k ys heads′ r g few here chained kept more most followed =
     record {
       chained = chained;

@@ -1,17 +1,16 @@
 -- A table that grows by a row, or finds its edge there.
 use mathlib.Core.Path.{_≡_, refl, sym, _∙_, ap, subst}
 use mathlib.Core.Logic.{_⊎_, inl, inr}
-use mathlib.Core.List.{List, [], _∷_, _++_}
+use mathlib.Core.List.{List, [], _∷_}
 use mathlib.Core.Option.{some}
-use Prim.Native.Nat.{ℕ, zero, suc, _+_, _<_, _≤_}
+use Prim.Native.Nat.{ℕ, _<_}
 use native.Mathlib.Omega.{arith}
 use lib.ListN.{length}
 use Rattle.sizechange.specs.Graph.{In, here, nth}
 use Rattle.sizechange.proofs.Arcs.{in-cons, in-left, in-right, in-append}
 use Rattle.sizechange.proofs.Lists.{nth-below, nth-in}
-use Rattle.table.specs.declared.Edge.{Edge}
 use Rattle.table.specs.declared.Row.{Row}
-use Rattle.table.specs.Index.{Has, Added}
+use Rattle.table.specs.Index.{Added}
 use Rattle.table.proofs.Rows.{nth-push}
 use Rattle.closure.specs.Ways.{Made, begun, gone-on, Before, Grown, nothing, grow}
 

@@ -3,24 +3,20 @@ use mathlib.Core.Path.{_≡_, refl, sym, _∙_, ap, subst}
 use mathlib.Core.Logic.{_⊎_, inl, inr}
 use mathlib.Core.List.{List, [], _∷_, _++_}
 use mathlib.Core.Option.{some, none}
-use Prim.Native.Nat.{ℕ, zero, suc, _+_, _<_, _≤_}
+use Prim.Native.Nat.{ℕ, zero, suc, _≤_}
 use native.Mathlib.Omega.{arith}
 use lib.ListN.{length}
-use Rattle.std.proofs.shelf.Tests.{cases-lt, cases-eq, cases-order}
-use Rattle.sizechange.specs.Graph.{Arc, Step, In, here, there, nth, compose, leads, Way, one, more, Alike, Idempotent, Has-reason, Way1, Listed, Different, Ways}
-use Rattle.sizechange.specs.Theorems.{Fine, FineStep, Closed}
-use Rattle.sizechange.proofs.Arcs.{in-cons, in-at, in-left, in-right, in-append}
-use Rattle.sizechange.proofs.Lists.{nth-in, in-nth, nth-below, nth-some}
+use Rattle.sizechange.specs.Graph.{Arc, Step, In, nth, compose, Way, one, more, Alike, Has-reason, Way1, Listed, Different, Ways}
+use Rattle.sizechange.specs.Theorems.{Fine, Closed}
+use Rattle.sizechange.proofs.Lists.{nth-in, in-nth}
 use Rattle.sizechange.proofs.Ways.{closed-is-all, many-ways}
 use Rattle.sizechange.proofs.Reason.{reason-listed, no-reason}
-use Rattle.graphs.specs.Words.{Words}
 use Rattle.graphs.proofs.Words.{words-alike, alike-words}
 use Rattle.table.specs.declared.Edge.{Edge}
 use Rattle.table.specs.declared.Row.{Row}
-use Rattle.table.specs.Index.{Has}
 use Rattle.table.specs.Rows.{Ends, row-at, rows}
 use Rattle.table.proofs.Rows.{edge-path, length-rows, nth-push, rows-nth}
-use Rattle.closure.specs.Ways.{Then, Made, begun, gone-on, Before, Upto, Grown, nothing, grow, Complete, Stands, Each, end, and, Steps-of, Ways-of, Sound, Fails}
+use Rattle.closure.specs.Ways.{Made, begun, gone-on, Grown, nothing, grow, Complete, Stands, Each, end, and, Step-rows, Way-rows, Sound, Fails}
 
 -- Lists side by side, and one more at the end.
 
@@ -49,14 +45,14 @@ each-from-nth (x ∷ xs) [] e r = absurd (omega arith)
 each-from-nth (x ∷ xs) (y ∷ ys) e r = and (r 0 x y refl refl) (each-from-nth xs ys (omega arith) (λ i. r (suc i)))
 
 -- the rows of a table stand for the steps place by place
-pub steps-by-place : (xs : List ℕ) (n : ℕ) (ss : List Step) → length ss ≡ n → ((i : ℕ) (s : Step) → nth ss i ≡ some s → Stands (row-at xs i .edge) (s .caller) (s .callee) (s .arcs)) → Steps-of (rows xs n) ss
+pub steps-by-place : (xs : List ℕ) (n : ℕ) (ss : List Step) → length ss ≡ n → ((i : ℕ) (s : Step) → nth ss i ≡ some s → Stands (row-at xs i .edge) (s .caller) (s .callee) (s .arcs)) → Step-rows (rows xs n) ss
 steps-by-place xs n ss long each = each-from-nth (rows xs n) ss (length-rows xs n ∙ sym long) (λ i t s a b. subst (λ (r : Row). Stands (r .edge) (s .caller) (s .callee) (s .arcs)) (rows-nth xs n i a .1) (each i s b))
 
 -- A grown table stands for ways, no two of them alike.
 
 pub record Bridge (ss : List Step) (vs : List Row) : Type 0 where
   pub list : List Way1
-  pub stand : Ways-of vs list
+  pub stand : Way-rows vs list
   pub are : (i : ℕ) (w : Way1) → nth list i ≡ some w → Way ss (w .caller) (w .callee) (w .arcs)
 
 bridge-push : (ss : List Step) (vs : List Row) (r : Row) (w : Way1) → Bridge ss vs → Stands (r .edge) (w .caller) (w .callee) (w .arcs) → Way ss (w .caller) (w .callee) (w .arcs) → Bridge ss (vs ++ r ∷ [])
@@ -65,7 +61,7 @@ bridge-push ss vs r w b st way = record { list = b .list ++ w ∷ []; stand = ea
     are : (i : ℕ) (u : Way1) → nth (b .list ++ w ∷ []) i ≡ some u → Way ss (u .caller) (u .callee) (u .arcs)
     are i u e = elim (nth-push (b .list) w i e) [ inl h ↦ b .are i u h | inr h ↦ subst (λ (x : Way1). Way ss (x .caller) (x .callee) (x .arcs)) (h .1) way ]
 
-bridge-more : (ts vs : List Row) (ss : List Step) (r : Row) → Steps-of ts ss → Bridge ss vs → Made ts vs r → Bridge ss (vs ++ r ∷ [])
+bridge-more : (ts vs : List Row) (ss : List Step) (r : Row) → Step-rows ts ss → Bridge ss vs → Made ts vs r → Bridge ss (vs ++ r ∷ [])
 bridge-more ts vs ss r steps b (begun t from at e) =
     let (s, is, st) = each-nth (r .step) steps at in
     bridge-push ss vs r (record { caller = s .caller; callee = s .callee; arcs = s .arcs }) b (subst (λ (d : Edge). Stands d (s .caller) (s .callee) (s .arcs)) (sym e) st) (one s (nth-in ss (r .step) is))
@@ -76,7 +72,7 @@ bridge-more ts vs ss r steps b (gone-on k w t from way at e go) =
     (record { caller = go .caller ∙ vst .caller; callee = go .callee ∙ st .callee; words = go .graph (v .arcs) (s .arcs) (vst .words) (st .words) })
     (more s (b .are k v vis) (nth-in ss (r .step) is) (sym (st .caller) ∙ e ∙ vst .callee))
 
-pub bridge : {ts vs : List Row} {ss : List Step} → Steps-of ts ss → Grown ts vs → Bridge ss vs
+pub bridge : {ts vs : List Row} {ss : List Step} → Step-rows ts ss → Grown ts vs → Bridge ss vs
 bridge steps nothing = record { list = []; stand = end; are = λ i w e. let z : _≡_ {A = ℕ} 0 1 = cc in absurd (omega arith) }
 bridge {ts} {ss = ss} steps (grow {vs = vs} r g made new before) = bridge-more ts vs ss r steps (bridge steps g) made
 
@@ -114,14 +110,14 @@ grown-different {ts} {vs} {ss} b g = record { are = b .are; differ = differ }
 
 -- A complete one stands for all the ways.
 
-listed : {vs : List Row} {ws : List Way1} {e : Edge} {f g : ℕ} {as₁ : List Arc} (r : Row) → Ways-of vs ws → In r vs → r .edge ≡ e → Stands e f g as₁ → Listed ws f g as₁
+listed : {vs : List Row} {ws : List Way1} {e : Edge} {f g : ℕ} {as₁ : List Arc} (r : Row) → Way-rows vs ws → In r vs → r .edge ≡ e → Stands e f g as₁ → Listed ws f g as₁
 listed r stand i p st =
     let (j, at) = in-nth i in
     let (w, is, ws₁) = each-nth j stand at in
     let (callers, callees, alike) = stands-same p ws₁ st in
     (j, w, is, callers, callees, alike)
 
-pub complete-closed : {ts vs : List Row} {ss : List Step} → Steps-of ts ss → (b : Bridge ss vs) → Grown ts vs → Complete ts vs → Closed ss (b .list)
+pub complete-closed : {ts vs : List Row} {ss : List Step} → Step-rows ts ss → (b : Bridge ss vs) → Grown ts vs → Complete ts vs → Closed ss (b .list)
 complete-closed {ts} {vs} {ss} steps b g c = record { different = grown-different b g; has-steps = has-steps; has-more = has-more }
   where
     has-steps : (s : Step) → In s ss → Listed (b .list) (s .caller) (s .callee) (s .arcs)
@@ -139,7 +135,7 @@ complete-closed {ts} {vs} {ss} steps b g c = record { different = grown-differen
         let (r, ir, go, u) = c .ways i k q t qis tis (st .caller ∙ e ∙ sym (qst .callee)) in
         listed r (b .stand) ir refl (record { caller = go .caller ∙ qst .caller; callee = go .callee ∙ st .callee; words = go .graph (w .arcs) (s .arcs) (qst .words) (st .words) })
 
-pub fine-steps : {ts : List Row} {ss : List Step} → Steps-of ts ss → ((t : Row) → In t ts → Ends (t .edge)) → Fine 64 8 ss
+pub fine-steps : {ts : List Row} {ss : List Step} → Step-rows ts ss → ((t : Row) → In t ts → Ends (t .edge)) → Fine 64 8 ss
 fine-steps steps ends s i =
     let (k, at) = in-nth i in
     let (t, is, st) = each-nth k (each-flip steps) at in
@@ -148,10 +144,10 @@ fine-steps steps ends s i =
     let b = e .callee-below in
     record { caller-below = omega (arith, st .caller); callee-below = omega (arith, st .callee); arcs-fine = st .words .fine }
 
-pub all-ways : {ts vs : List Row} {ss : List Step} → Steps-of ts ss → ((t : Row) → In t ts → Ends (t .edge)) → Grown ts vs → Complete ts vs → (ws : List Way1) × Ways ss ws × Ways-of vs ws
+pub all-ways : {ts vs : List Row} {ss : List Step} → Step-rows ts ss → ((t : Row) → In t ts → Ends (t .edge)) → Grown ts vs → Complete ts vs → (ws : List Way1) × Ways ss ws × Way-rows vs ws
 all-ways {ss = ss} steps ends g c = let b = bridge steps g in (b .list, closed-is-all 64 8 ss (b .list) (fine-steps steps ends) (complete-closed steps b g c), b .stand)
 
-pub many : {ts vs : List Row} {ss : List Step} → Steps-of ts ss → ((t : Row) → In t ts → Ends (t .edge)) → Grown ts vs → (ws : List Way1) × Ways ss ws × (length vs ≤ length ws)
+pub many : {ts vs : List Row} {ss : List Step} → Step-rows ts ss → ((t : Row) → In t ts → Ends (t .edge)) → Grown ts vs → (ws : List Way1) × Ways ss ws × (length vs ≤ length ws)
 many steps ends g =
     let b = bridge steps g in
     let (ws, all, le) = many-ways (fine-steps steps ends) (grown-different b g) in
@@ -159,10 +155,10 @@ many steps ends g =
 
 -- The reason.
 
-pub sound-reason : {vs : List Row} {ss : List Step} {ws : List Way1} → Fine 64 8 ss → Ways ss ws → Ways-of vs ws → ((j : ℕ) (r : Row) → nth vs j ≡ some r → Sound (r .edge)) → Has-reason ss
+pub sound-reason : {vs : List Row} {ss : List Step} {ws : List Way1} → Fine 64 8 ss → Ways ss ws → Way-rows vs ws → ((j : ℕ) (r : Row) → nth vs j ≡ some r → Sound (r .edge)) → Has-reason ss
 sound-reason fine all stand sound = reason-listed fine all (λ j w at loop. let (r, is, st) = each-nth j (each-flip stand) at in sound j r is (st .caller ∙ loop ∙ sym (st .callee)) (w .arcs) (st .words))
 
-pub fails-no-reason : {vs : List Row} {ss : List Step} {ws : List Way1} (j : ℕ) (r : Row) → Fine 64 8 ss → Ways ss ws → Ways-of vs ws → nth vs j ≡ some r → Fails (r .edge) → Has-reason ss → ⊥
+pub fails-no-reason : {vs : List Row} {ss : List Step} {ws : List Way1} (j : ℕ) (r : Row) → Fine 64 8 ss → Ways ss ws → Way-rows vs ws → nth vs j ≡ some r → Fails (r .edge) → Has-reason ss → ⊥
 fails-no-reason j r fine all stand at f =
     let (w, is, st) = each-nth j stand at in
     no-reason j w fine (all .different) is (sym (st .caller) ∙ f .loop ∙ st .callee) (f .idempotent (w .arcs) (st .words)) (λ i l. f .none (w .arcs) (st .words) i)

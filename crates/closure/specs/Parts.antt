@@ -2,22 +2,17 @@
 use mathlib.Core.Path.{_≡_}
 use mathlib.Core.List.{List}
 use mathlib.Core.Option.{some}
-use Prim.Native.Nat.{ℕ, suc, _+_, _*_, _^_, _<_, _≤_}
-use lib.ListN.{length, getD}
+use Prim.Native.Nat.{ℕ, _+_, _*_, _^_, _<_, _≤_}
+use lib.ListN.{getD}
 use Rattle.sizechange.specs.Graph.{In, nth}
 use Rattle.table.specs.declared.Row.{Row}
 use Rattle.table.specs.Rows.{edge-of, points, row-at, rows, width}
-use Rattle.table.specs.Index.{Chained}
 use Rattle.closure.specs.Ways.{Upto, Grown, Goes-on}
 
 -- room for one way more than allowed, by which too many are seen
 pub record Room (limit words : ℕ) : Type 0 where
   pub words-enough : width * limit + width ≤ words
   pub limit-small : limit < 2 ^ 32
-
--- the ways are chained, unless there are too many
-abbrev pub Chained-within : ℕ → List ℕ → List ℕ → ℕ → Type 0
-Chained-within limit xs heads count = count ≤ limit → Chained xs heads count
 
 -- the first i of the steps are in the table, or there are too many ways
 pub record Entered (ts : List Row) (i limit : ℕ) (xs : List ℕ) (count : ℕ) : Type 0 where

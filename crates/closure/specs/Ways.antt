@@ -4,8 +4,7 @@ use mathlib.Core.Logic.{_⊎_}
 use mathlib.Core.List.{List, [], _∷_, _++_}
 use mathlib.Core.Option.{some}
 use Prim.Native.Nat.{ℕ, suc, _<_, _≤_}
-use lib.ListN.{length}
-use Rattle.sizechange.specs.Graph.{Arc, Step, In, nth, compose, leads, Idempotent, Has-reason, Way1, Ways}
+use Rattle.sizechange.specs.Graph.{Arc, Step, In, nth, compose, leads, Idempotent, Way1}
 use Rattle.graphs.specs.Words.{Words}
 use Rattle.table.specs.declared.Edge.{Edge}
 use Rattle.table.specs.declared.Row.{Row}
@@ -54,11 +53,11 @@ pub data Each {A B : Type 0} (R : A → B → Type 0) : List A → List B → Ty
   end : Each R [] []
   and : {x : A} {y : B} {xs : List A} {ys : List B} → R x y → Each R xs ys → Each R (x ∷ xs) (y ∷ ys)
 
-abbrev pub Steps-of : List Row → List Step → Type 0
-Steps-of ts ss = Each (λ (t : Row) (s : Step). Stands (t .edge) (s .caller) (s .callee) (s .arcs)) ts ss
+abbrev pub Step-rows : List Row → List Step → Type 0
+Step-rows ts ss = Each (λ (t : Row) (s : Step). Stands (t .edge) (s .caller) (s .callee) (s .arcs)) ts ss
 
-abbrev pub Ways-of : List Row → List Way1 → Type 0
-Ways-of vs ws = Each (λ (r : Row) (w : Way1). Stands (r .edge) (w .caller) (w .callee) (w .arcs)) vs ws
+abbrev pub Way-rows : List Row → List Way1 → Type 0
+Way-rows vs ws = Each (λ (r : Row) (w : Way1). Stands (r .edge) (w .caller) (w .callee) (w .arcs)) vs ws
 
 -- an edge is no loop, or not idempotent, or some place becomes a part of itself
 abbrev pub Sound : Edge → Type 0

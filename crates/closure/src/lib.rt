@@ -1,6 +1,7 @@
+//! All the ways along a call graph, breadth-first in lent words, and the first without the reason.
 ghost use Prim.Native.Nat.{ℕ, _+_, _*_, _^_, _<_, _≤_};
 ghost use Rattle.closure.specs.Answers.{Closed-by, Decides-reason, First-failing};
-ghost use Rattle.closure.specs.Parts.{Chained-within, Entered, Followed, Kept, Linked, Room};
+ghost use Rattle.closure.specs.Parts.{Entered, Followed, Kept, Linked, Room};
 ghost use Rattle.closure.specs.Ways.{Fails, Sound};
 ghost use Rattle.table.specs.Index.{Chained};
 ghost use Rattle.table.specs.Rows.{points, rows, width};
@@ -31,7 +32,7 @@ fn enter_steps(steps: &[u32], n: usize, limit: usize, ways: &mut [u32], heads: &
     requires few { ⌜ n < 2 ^ 32 ⌝ }
     requires room { ⌜ Room limit (length (now ways)) ⌝ }
     requires empty { ⌜ Chained (now ways) (now heads) 0 ⌝ }
-    ensures chained { λ r. ⌜ Chained-within limit (now (ways .exit)) (now (heads .exit)) r ⌝ }
+    ensures chained { λ r. ⌜ (r ≤ limit → Chained (now (ways .exit)) (now (heads .exit)) r) ⌝ }
     ensures entered { λ r. ⌜ Entered (rows (now (steps .entry)) n) n limit (now (ways .exit)) r ⌝ }
 {
     let mut count = 0;
@@ -76,13 +77,13 @@ fn follow(
     limit: usize,
 ) -> usize
     requires room { ⌜ Room limit (length (now ways)) ⌝ }
-    requires chained { ⌜ Chained-within limit (now ways) (now heads) count ⌝ }
+    requires chained { ⌜ (count ≤ limit → Chained (now ways) (now heads) count) ⌝ }
     requires points { ⌜ length (now starts) ≡ points ⌝ }
     requires linked { ⌜ Linked 0 (length (now nexts)) (now ways) (now starts) (now nexts) ⌝ }
     requires few { ⌜ length (now nexts) ≤ count ⌝ }
     requires most { ⌜ count ≤ limit + 1 ⌝ }
     requires here { ⌜ k < count ⌝ }
-    ensures chained { λ r. ⌜ Chained-within limit (now (ways .exit)) (now (heads .exit)) r ⌝ }
+    ensures chained { λ r. ⌜ (r ≤ limit → Chained (now (ways .exit)) (now (heads .exit)) r) ⌝ }
     ensures kept { λ r. ⌜ Kept (now (ways .entry)) count (now (ways .exit)) ⌝ }
     ensures more { λ r. ⌜ count ≤ r ⌝ }
     ensures most { λ r. ⌜ r ≤ limit + 1 ⌝ }
@@ -121,7 +122,7 @@ fn extend(
     limit: usize,
 ) -> usize
     requires room { ⌜ Room limit (length (now ways)) ⌝ }
-    requires chained { ⌜ Chained-within limit (now ways) (now heads) count ⌝ }
+    requires chained { ⌜ (count ≤ limit → Chained (now ways) (now heads) count) ⌝ }
     requires points { ⌜ length (now starts) ≡ points ⌝ }
     requires linked { ⌜ Linked 0 (length (now nexts)) (now ways) (now starts) (now nexts) ⌝ }
     requires few { ⌜ length (now nexts) ≤ count ⌝ }
@@ -190,10 +191,14 @@ pub fn first_without_reason(ways: &[u32], count: usize) -> Option<usize>
     ensures first { λ r. ⌜ First-failing (now (ways .entry)) count r ⌝ }
     ensures reason { λ r. ⌜ Decides-reason (now (ways .entry)) count r ⌝ }
 {
-    for way in 0..count {
-        if fails(edge_at(ways, way)) {
-            return Some(way);
+    let mut way = 0;
+    'look: loop {
+        if way >= count {
+            break 'look None;
         }
+        if fails(edge_at(ways, way)) {
+            break 'look Some(way);
+        }
+        way += 1;
     }
-    None
 }

@@ -1,12 +1,12 @@
 -- Laws of bits: of blocks, of and, or, and of the product through one middle place.
-use mathlib.Core.Path.{_≡_, refl, sym, _∙_, ap, ap₂, subst}
+use mathlib.Core.Path.{_≡_, sym, _∙_, ap, ap₂, subst}
 use mathlib.Core.Logic.{_⊎_, inl, inr}
 use Prim.Native.Nat.{ℕ, zero, suc, _+_, _-_, _*_, _/_, _%_, _^_, _<_, _≤_, min, max}
-use native.Mathlib.Nat.{add-assoc, add-comm, zero-add, add-zero, mul-assoc, mul-comm, add-mul, zero-mul, one-mul, zero-div, mul-le-mul-right, pow-suc}
+use native.Mathlib.Nat.{add-comm, zero-add, add-zero, mul-assoc, mul-comm, add-mul, zero-mul, one-mul, zero-div, mul-le-mul-right, pow-suc}
 use native.Mathlib.Numerals.{add-one}
 use native.Mathlib.Omega.{arith}
 use lib.Bits.{bitAnd, bitOr, and-block, and-shr, or-shr, and-step, or-step, and-mask, and-le-r}
-use lib.Pow.{pow-pos, pow-add, shr-shr, split, high, low, field, mod-mod-pow}
+use lib.Pow.{pow-pos, shr-shr, split, high, low, field, mod-mod-pow}
 use Rattle.std.proofs.shelf.Bits.{mul-le}
 use Rattle.std.proofs.shelf.Tests.{cases-lt, cases-order}
 use Rattle.sizechange.proofs.Arcs.{sup}

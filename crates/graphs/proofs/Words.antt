@@ -2,16 +2,16 @@
 use mathlib.Core.Path.{_≡_, refl, sym, _∙_, ap, ap₂, subst}
 use mathlib.Core.Logic.{_⊎_, inl, inr}
 use mathlib.Core.List.{List, [], _∷_, _++_}
-use Prim.Native.Nat.{ℕ, zero, suc, _+_, _-_, _*_, _/_, _%_, _^_, _<_, _≤_, min, max}
+use Prim.Native.Nat.{ℕ, zero, suc, _+_, _*_, _/_, _%_, _^_, _<_, _≤_, min, max}
 use native.Mathlib.Omega.{arith}
-use mathlib.Core.Bool.{Bool, true, false, _&&_, not, cond}
+use mathlib.Core.Bool.{Bool, true, _&&_, not, cond}
 use lib.Bits.{bitAnd, bitOr, and-lt, or-lt}
 use Rattle.std.proofs.shelf.Bits.{pow-below}
 use lib.Dec.{eqb, lit<}
 use Rattle.std.proofs.shelf.Tests.{cases-lt, cond-true, cond-false, eq-eqb, and-from, cases-eq, eqb-true, ne-eqb, not-true, not-from-false}
 use Rattle.std.proofs.shelf.Ways.{decides-below-and, decides-eqb, eqb-tells, tells, not-from-decides}
 use Rattle.std.specs.Orderings.{Decides}
-use Rattle.sizechange.specs.Graph.{Arc, In, here, there, leads, compose, Alike, Idempotent}
+use Rattle.sizechange.specs.Graph.{Arc, In, leads, compose, Alike, Idempotent}
 use Rattle.sizechange.specs.Theorems.{FineArc}
 use Rattle.sizechange.proofs.Arcs.{sup, thru, thru-is, sup-cong, leads-compose, leads-outside, fine-compose, in-append, in-cons}
 use Rattle.graphs.specs.Bits.{bit}

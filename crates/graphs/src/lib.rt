@@ -1,3 +1,4 @@
+//! Size-change graphs between eight places, in two words of 64 bits.
 ghost use Prim.Native.Nat.{ℕ, _+_, _*_, _^_, _<_, _≤_, min};
 ghost use Rattle.graphs.specs.Bits.{bit};
 ghost use Rattle.graphs.specs.Words.{Through, Words, places};
@@ -12,13 +13,14 @@ pub const PLACES: u32 = 8;
 /// How an arc leads to a part.
 pub const PART: u32 = 2;
 
+// The arcs from the first place, those to the first place, and those from each place to itself.
 const ROW: u64 = 0xff;
 
 const COLUMN: u64 = 0x0101_0101_0101_0101;
 
 const DIAGONAL: u64 = 0x8040_2010_0804_0201;
 
-/// A size-change graph: bit places * i + j says that place i leads to place j, and of these, to a part.
+/// A size-change graph: bit `PLACES * i + j` says that place i leads to place j, and in `part` that it leads to a part.
 #[derive(Clone, Copy)]
 pub struct Graph {
     pub any: u64,

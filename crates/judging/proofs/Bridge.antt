@@ -10,7 +10,7 @@ use Rattle.sizechange.specs.Theorems.{Fine}
 use Rattle.table.specs.Rows.{rows}
 use Rattle.callgraph.specs.StepRows.{StepRows}
 use Rattle.closure.specs.Answers.{Whole, Closed-by, Decides-reason}
-use Rattle.closure.specs.Ways.{Steps-of}
+use Rattle.closure.specs.Ways.{Step-rows}
 use Rattle.closure.proofs.Ways.{steps-by-place}
 use Rattle.lang.specs.Program.{Prog}
 use Rattle.lang.specs.Steps.{call-graph}
@@ -20,7 +20,7 @@ use Rattle.judging.specs.declared.Verdict.the-variants.{Ends, NoReason, NoProg
 use Rattle.judging.specs.Verdicts.{Settles, VerdictSays}
 
 -- the rows stand for the steps
-pub steps-of : (xs : List ℕ) (ss : List Step) (n : ℕ) → StepRows xs ss n → Steps-of (rows xs n) ss
+pub steps-of : (xs : List ℕ) (ss : List Step) (n : ℕ) → StepRows xs ss n → Step-rows (rows xs n) ss
 steps-of xs ss n h = steps-by-place xs n ss (h .number) (λ i s e. let k = h .each i s e .step in record { caller = k .caller-is; callee = k .callee-is; words = k .graph-is })
 
 pub settled-ends : (st : List ℕ) (n limit : ℕ) (xs : List ℕ) (count : ℕ) (ss : List Step) → Fine 64 8 ss → StepRows st ss n → Whole (rows st n) limit xs count → Decides-reason xs count None → Settles ss limit (Ends count)

@@ -30,6 +30,7 @@ given-word i h =
     let a : (2 * i + 1 - 1) / 2 % 8 ≡ i = omega arith in
     let b : 1 + (2 * i + 1 - 1) % 2 ≡ 1 = omega arith in
     from-some (2 * i + 1) (omega arith) ∙ ap₂ (λ (x y : ℕ). some (record { arg = x; how = y })) a b
+
 pub given-view : (xs : List ℕ) (i n : ℕ) → i + n ≤ 8 → ((k : ℕ) → k < n → getD xs k 0 ≡ 2 * (i + n - 1 - k) + 1) → in-view xs n ≡ given i n
 given-view xs i zero l h = refl
 given-view xs i (suc n) l h =

@@ -1,5 +1,6 @@
 ghost use Prim.Native.Nat.{ℕ, _+_, _*_, _/_, _%_, _<_, _≤_};
-ghost use Rattle.graphs.specs.Words.{Words};
+ghost use Rattle.graphs.specs.Words.{Words, places};
+ghost use Rattle.lang.specs.Program.{max-args};
 ghost use Rattle.lang.specs.Steps.{arc, given, known as of-variable, part};
 ghost use Rattle.origins.specs.Origins.{from-of, in-view};
 ghost use Rattle.sizechange.specs.Graph.{Arc};
@@ -27,7 +28,7 @@ impl Origin {
 
     /// The graph with the arc to argument `to` that a value of this origin gives.
     pub fn lead(self, graph: Graph, to: u32) -> Graph
-        requires { ⌜ to < 8 ⌝ }
+        requires { ⌜ to < places ⌝ }
         ensures { λ r. ⌜ ((as₁ : List Arc) → Words graph as₁ → Words r (as₁ ++ arc to (from-of (self .0)))) ⌝ }
     {
         if self.0 == 0 {
@@ -50,7 +51,7 @@ pub fn origin_at(known: &[u32], vars: u32, i: u32) -> Origin
 
 /// At the start of a body the arguments are in view, the first as the newest.
 pub fn give(known: &mut [u32], args: u32)
-    requires few { ⌜ args ≤ 8 ⌝ }
+    requires few { ⌜ args ≤ max-args ⌝ }
     requires within { ⌜ args ≤ length (now known) ⌝ }
     ensures { λ _. ⌜ in-view (now (known .exit)) args ≡ given 0 args ⌝ }
 {

@@ -1,17 +1,17 @@
 -- Hash chains.
-use mathlib.Core.Path.{_≡_, refl, sym, _∙_, ap, ap₂, subst}
+use mathlib.Core.Path.{_≡_, sym, _∙_, ap, subst}
 use mathlib.Core.Logic.{_⊎_, inl, inr}
-use mathlib.Core.List.{List, [], _∷_, _++_}
-use Prim.Native.Nat.{ℕ, zero, suc, _+_, _-_, _*_, _/_, _%_, _^_, _<_, _≤_}
+use mathlib.Core.List.{List}
+use Prim.Native.Nat.{ℕ, suc, _+_, _-_, _*_, _/_, _^_, _<_, _≤_}
 use native.Mathlib.Omega.{arith}
 use lib.ListN.{length, getD, set}
-use Rattle.std.proofs.shelf.Tests.{cases-lt, cases-eq, cases-order}
+use Rattle.std.proofs.shelf.Tests.{cases-eq, cases-order}
 use Rattle.std.proofs.shelf.Lists.{length-set, getD-set-same, getD-set-other}
 use Rattle.std.proofs.shelf.Bits.{mul-le, div-below}
 use Rattle.table.specs.declared.Edge.{Edge}
 use Rattle.table.specs.declared.Row.{Row}
 use Rattle.table.specs.Rows.{Same-row, edge-of, link-at, row-at, rows}
-use Rattle.table.specs.Index.{Last, Chained, Found, Has, bucket, bucket-of}
+use Rattle.table.specs.Index.{Last, Chained, Has, bucket, bucket-of}
 use Rattle.table.proofs.Rows.{in-rows, rows-in}
 
 scaled-below : (x n : ℕ) → x < 2 ^ 32 → 0 < n → x * n / 2 ^ 32 < n
@@ -106,3 +106,7 @@ has-row xs n e j l p = (row-at xs j, in-rows xs n j l, p)
 
 pub has-no-row : (xs : List ℕ) (n : ℕ) (e : Edge) → ((j : ℕ) → j < n → edge-of xs j ≡ e → ⊥) → Has (rows xs n) e → ⊥
 has-no-row xs n e none h = let r = rows-in xs n (h .1) in none (r .0) (r .1) (ap (λ (q : Row). q .edge) (r .2) ∙ h .2)
+
+-- the new head as a word counts it
+pub chained-word : (ys heads : List ℕ) (n b v : ℕ) → v ≡ n + 1 → Chained ys (set heads b (n + 1)) (n + 1) → Chained ys (set heads b v) (n + 1)
+chained-word ys heads n b v e c = subst (λ (w : ℕ). Chained ys (set heads b w) (n + 1)) (sym e) c

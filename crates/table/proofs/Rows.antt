@@ -10,7 +10,7 @@ use mathlib.Core.Option.{some}
 use Rattle.sizechange.specs.Graph.{In, nth}
 use Rattle.sizechange.proofs.Lists.{nth-below}
 use Rattle.sizechange.proofs.Arcs.{in-cons, in-at, in-left, in-right, in-append}
-use Prim.Native.Nat.{ℕ, zero, suc, _+_, _-_, _*_, _/_, _%_, _^_, _<_, _≤_}
+use Prim.Native.Nat.{ℕ, zero, suc, _+_, _*_, _/_, _%_, _^_, _<_, _≤_}
 use lib.Dec.{lit<}
 use Rattle.std.proofs.shelf.Tests.{cases-lt, cases-eq}
 use Rattle.table.specs.declared.Edge.{Edge}

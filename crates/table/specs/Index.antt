@@ -2,12 +2,12 @@
 use mathlib.Core.Path.{_≡_}
 use mathlib.Core.Logic.{_⊎_}
 use mathlib.Core.List.{List, [], _∷_, _++_}
-use Prim.Native.Nat.{ℕ, zero, suc, _+_, _*_, _/_, _%_, _^_, _<_, _≤_}
+use Prim.Native.Nat.{ℕ, suc, _+_, _*_, _/_, _%_, _^_, _<_, _≤_}
 use lib.ListN.{length, getD}
 use Rattle.sizechange.specs.Graph.{In}
 use Rattle.table.specs.declared.Edge.{Edge}
 use Rattle.table.specs.declared.Row.{Row}
-use Rattle.table.specs.Rows.{cell, edge-of, link-at, points, row-at, rows}
+use Rattle.table.specs.Rows.{edge-of, link-at, points}
 
 -- the chain of an edge among n: any function of both would do; this one spreads the edges well
 unfoldable pub bucket-of : Edge → ℕ → ℕ

@@ -3,7 +3,6 @@ use mathlib.Core.Path.{_≡_}
 use mathlib.Core.List.{List, [], _∷_, _++_}
 use Prim.Native.Nat.{ℕ, zero, suc, _+_, _*_, _/_, _%_, _^_, _<_}
 use lib.ListN.{getD}
-use Rattle.graphs.specs.declared.Graph.{Graph}
 use Rattle.table.specs.declared.Edge.{Edge}
 use Rattle.table.specs.declared.Row.{Row}
 

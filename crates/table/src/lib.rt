@@ -1,3 +1,4 @@
+//! Edges of a call graph in lent words, eight a row, each found by its hash chain.
 ghost use Prim.Native.Nat.{ℕ, _+_, _*_, _/_, _%_, _^_, _<_, _≤_};
 ghost use Rattle.std.specs.Orderings.{Decides};
 ghost use Rattle.table.specs.Index.{Added, Chained, Found, bucket-of};
@@ -34,8 +35,6 @@ const SPREAD_PART: u64 = 0xC2B2_AE3D_27D4_EB4F;
 
 const SPREAD_ENDS: u64 = 0x1656_67B1_9E37_79F9;
 
-// The last row that a word can number, counting from one.
-const LAST: usize = 0xffff_ffff;
 const HALF: u64 = 0x1_0000_0000;
 
 /// A way from point to point with its size-change graph.
@@ -54,6 +53,7 @@ pub struct Row {
     pub step: u32,
 }
 
+/// Two words as one.
 fn word(low: u32, high: u32) -> u64
     ensures { λ r. ⌜ r ≡ low + high * 2 ^ 32 ⌝ }
 {
@@ -92,19 +92,21 @@ pub fn row_at(rows: &[u32], k: usize) -> Row
     }
 }
 
+/// The low half of a word.
 fn low(x: u64) -> u32
     ensures { λ r. ⌜ r ≡ x % 2 ^ 32 ⌝ }
 {
     (x % HALF) as u32
 }
 
+/// The high half of a word.
 fn high(x: u64) -> u32
     ensures { λ r. ⌜ r ≡ x / 2 ^ 32 ⌝ }
 {
     (x / HALF) as u32
 }
 
-/// Writes row k.
+/// Writes row k and its link.
 pub fn put(rows: &mut [u32], k: usize, row: Row, link: u32)
     requires room { ⌜ width * k + width ≤ length (now rows) ⌝ }
     requires ends { ⌜ Ends (row .edge) ⌝ }
@@ -125,6 +127,7 @@ pub fn put(rows: &mut [u32], k: usize, row: Row, link: u32)
     rows[at + LINK] = link;
 }
 
+/// The same ends and the same graph.
 fn same(a: Edge, b: Edge) -> bool
     ensures { λ r. ⌜ Decides r (a ≡ b) ⌝ }
 {
@@ -134,6 +137,7 @@ fn same(a: Edge, b: Edge) -> bool
         && a.graph.part == b.graph.part
 }
 
+/// The chain of an edge: the high bits of a product, scaled to the number of chains.
 fn chain(e: Edge, heads: usize) -> usize
     requires { ⌜ 0 < heads ⌝ ∗ ⌜ heads ≤ 2 ^ 32 ⌝ }
     ensures is { λ r. ⌜ r ≡ bucket-of e heads ⌝ }
@@ -165,6 +169,7 @@ pub fn find(rows: &[u32], heads: &[u32], count: usize, e: Edge) -> usize
 }
 
 /// Adds a row at the end, unless its edge is there; gives the number of rows after.
+/// The row that is one too many for a word to count is not found again.
 pub fn add(rows: &mut [u32], heads: &mut [u32], count: usize, row: Row) -> usize
     requires room { ⌜ width * count + width ≤ length (now rows) ⌝ }
     requires chained { ⌜ Chained (now rows) (now heads) count ⌝ }
@@ -180,11 +185,7 @@ pub fn add(rows: &mut [u32], heads: &mut [u32], count: usize, row: Row) -> usize
     }
     let b = chain(row.edge, heads.len());
     put(rows, count, row, heads[b]);
-    if count >= LAST {
-        // A row past the last number is counted, and never looked for.
-        return count + 1;
-    }
-    heads[b] = (count + 1) as u32;
+    heads[b] = (count as u32).wrapping_add(1);
     count + 1
 }
 

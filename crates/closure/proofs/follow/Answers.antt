@@ -1,7 +1,7 @@
 use Prim.Native.Nat.{_+_}
 use mathlib.Core.Path.{refl}
 use native.Mathlib.Omega.{arith}
-use lib.ListN.{length, getD}
+use lib.ListN.{length}
 use Rattle.closure.proofs.Following.{turn-none, turn-more, following-all}
 use Rattle.closure.proofs.follow.Needs as need
 
@@ -20,7 +20,7 @@ returns-then-count-limit c =
     }
 
 pub add-count-requires : need.add-count-requires
-add-count-requires c κs = record { room = omega arith; chained = c .loop-step .inv .chained (omega arith); ends = record { caller-below = c .edge-at-way .ensures .ends .caller-below; callee-below = c .row-at-last .ensures .ends .callee-below }; few = omega arith }
+add-count-requires c κs = record { room = omega arith; chained = c .loop-step .inv .chained (c .if-count-limit .left); ends = record { caller-below = c .edge-at-way .ensures .ends .caller-below; callee-below = c .row-at-last .ensures .ends .callee-below }; few = omega arith }
 
 pub loop-step-less : need.loop-step-less
 loop-step-less c = omega (arith, c .loop-step .inv .linked .nexts-first (c .loop-step .step) (omega arith) (c .loop-step-test .taken) .least)

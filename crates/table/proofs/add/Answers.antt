@@ -1,22 +1,15 @@
+use Prim.Native.Nat.{_+_, _%_, _^_}
 use mathlib.Core.Logic.{inl, inr}
 use mathlib.Core.Path.{refl, sym, _∙_, ap}
 use native.Mathlib.Omega.{arith}
 use Rattle.table.specs.declared.Row.{Row}
 use Rattle.table.specs.Index.{bucket-of}
 use lib.ListN.{length}
-use Rattle.table.proofs.Index.{chained-push, has-row, has-no-row}
+use Rattle.table.proofs.Index.{chained-push, chained-word, has-row, has-no-row}
 use Rattle.table.proofs.add.Needs as need
 
 pub returns-then-find-count : need.returns-then-find-count
-returns-then-find-count c = record { chained = λ _. c .pre .chained; kept = λ j l. refl; added = inl (has-row (c .args .rows .now) (c .args .count) (c .args .row .edge) (c .find .result) (c .if-find-count .taken) (c .find .ensures .here (c .if-find-count .taken)), refl); most = (omega arith, omega arith) }
-
-pub returns-then-count-ge-LAST : need.returns-then-count-ge-LAST
-returns-then-count-ge-LAST c = record {
-    chained = λ l. absurd (omega arith);
-    kept = λ j l. c .put .ensures .others j (λ z. omega arith) .row;
-    added = inr (has-no-row (c .args .rows .now) (c .args .count) (c .args .row .edge) (c .find .ensures .nowhere (c .if-find-count .left)), c .put .ensures .pushed);
-    most = (omega arith, omega arith);
-  }
+returns-then-find-count c = record { chained = λ l. c .pre .chained; kept = λ j l. refl; added = inl (has-row (c .args .rows .now) (c .args .count) (c .args .row .edge) (c .find .result) (c .if-find-count .taken) (c .find .ensures .here (c .if-find-count .taken)), refl); most = (omega arith, omega arith) }
 
 pub returns : need.returns
 returns c =
@@ -24,8 +17,9 @@ returns c =
     let ys = c .put .last .rows in
     let heads = c .args .heads .now in
     let n = c .args .count in
+    let b = c .chain-b .result in
     record {
-      chained = λ _. chained-push xs ys heads n (c .chain-b .result) (c .pre .chained) (c .chain-b .ensures .below) (c .put .ensures .others) (ap (λ (r : Row). bucket-of (r .edge) (length heads)) (c .put .ensures .new) ∙ sym (c .chain-b .ensures .is)) (c .put .ensures .link);
+      chained = λ l. chained-word ys heads n b ((n + 1) % 2 ^ 32) (omega arith) (chained-push xs ys heads n b (c .pre .chained) (c .chain-b .ensures .below) (c .put .ensures .others) (ap (λ (r : Row). bucket-of (r .edge) (length heads)) (c .put .ensures .new) ∙ sym (c .chain-b .ensures .is)) (c .put .ensures .link));
       kept = λ j l. c .put .ensures .others j (λ z. omega arith) .row;
       added = inr (has-no-row xs n (c .args .row .edge) (c .find .ensures .nowhere (c .if-find-count .left)), c .put .ensures .pushed);
       most = (omega arith, omega arith);

@@ -1,5 +1,3 @@
-use Prim.Native.Nat.{_+_, _*_, _^_, _/_, _%_}
-use lib.ListN.{getD}
 use mathlib.Core.Path.{refl}
 use native.Mathlib.Omega.{arith}
 use Rattle.table.specs.Rows.{edge-of}

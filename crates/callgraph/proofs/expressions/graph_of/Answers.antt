@@ -24,7 +24,7 @@ loop-i-holds c = (refl, λ p es k h. c .none-graph .ensures)
 pub loop-i-again : need.loop-i-again
 loop-i-again c = (
   c .end-of-start .ensures .is ∙ hop-on (c .args .ends .now) (c .args .at) (c .loop-i .i) (c .loop-i .start) (c .loop-i .inv .0),
-  λ p es k h. words-more (in-view (c .args .known .now) (c .args .vars)) p (c .args .bytes .now) (c .args .ends .now) (c .pre .ending) (c .args .vars) (c .args .at) (c .args .n) es k (c .loop-i .i) (c .loop-i .start) (c .loop-i-test .taken) (c .loop-i .inv .0) (c .origin-of-origin .result .0) (c .origin-of-origin .ensures) (c .loop-i .graph) (c .lead-graph .result) (c .lead-graph .ensures) h (c .loop-i .inv .1 p es k h)
+  λ p es k h. words-more (in-view (c .args .known .now) (c .args .vars)) p (c .args .bytes .now) (c .args .ends .now) (c .pre .ending) (c .args .vars) (c .args .at) (c .args .n) es k (c .loop-i .i) (c .loop-i .start) (c .loop-i-test .taken) (c .loop-i .inv .0) (c .origin-of-origin .result .0) (c .origin-of-origin .ensures) (c .loop-i .graph) (c .lead-graph .result) (c .lead-graph .ensures) h (c .loop-i .inv .1 p es k h),
 )
 
 pub returns : need.returns

@@ -1,0 +1,287 @@
+-- Each turn goes on with what is left of the first task; what is left, and every part of it, costs less.
+use borrow.Author.Needs.{needs}
+use native.Mathlib.Omega.{arith}
+use mathlib.Core.Path.{_≡_, refl, sym, subst, _∙_}
+use mathlib.Core.Bool.{Bool, true, false}
+use lib.ListN.{length}
+use Prim.Native.Nat.{ℕ, suc, _+_, _-_, _≤_, _<_}
+use Rattle.arena.specs.Nodes.{IsNode, tree}
+use Rattle.arena.proofs.Trees.{tree-parts, is-node}
+use Rattle.tasks.specs.declared.store.Store.{Store}
+use Rattle.tasks.specs.Tasks.{Stands, Within, Leads}
+use Rattle.tasks.specs.Stores.{Ready, Moved, Held, Wide, task, tasks, floor, comes-to}
+use Rattle.tasks.proofs.Costs.{within-stands, leads-stands}
+use Rattle.tasks.proofs.Moves.{prepend}
+use Rattle.tasks.proofs.Paths.{moved-then, still, same-frame, path-var, path-leaf, path-left, path-left-stops, path-right, path-right-stops, path-made, path-bound, path-parts-leaf, path-parts-node, path-value, path-value-stops}
+use Rattle.tasks.proofs.Calling.{Worked, moved-same, zeros, old-set, worked-none, worked-all, worked-within, worked-stop, worked-more, worked-stands, path-args, path-args-stop, path-deep, path-tail, path-inner}
+use Rattle.tasks.proofs.Courses.{Course, cost-of, course-start, course-stands, course-says, course-moved, course-step, course-up, here-parts, course-falls, worked-falls, step-falls, here, below-end, var-view, parts-view, few-given, call-numbered, words-above, wide-part, wide-one, wide-two, Enters, opened, replaced, enters-wide, enters-words, enters-leads, course-enters, moved-stopped}
+use Rattle.running.proofs.cycle.+arguments+value.Needs as need
+use Rattle.running.proofs.cycle.+arguments+value.Needs.{value-then-inside·else-depth-eq0, value-else-inside}
+
+pub arguments-loop-j-holds : need.arguments-loop-j-holds
+arguments-loop-j-holds t c =
+    (omega arith, c .pre .wide, worked-none (c .args .text .now .bytes .now) (c .args .store .now) (c .args .at) (c .args .base) (c .args .top) (c .args .depth) (c .args .n) _ (c .pre .ready) refl (zeros 8 (c .args .store .now .used)))
+
+pub arguments-value-v-requires : need.arguments-value-v-requires
+arguments-value-v-requires t c κs =
+    let w = c .loop-j .inv .2 in
+    let f = worked-falls (c .args .text .now) (c .args .store .now) (c .args .at) (c .args .base) (c .args .top) (c .args .depth) (c .args .n) (c .loop-j .store) (c .loop-j .at) (c .loop-j .j) (c .loop-j .given .0) (c .pre .stand) w (c .loop-j-test .taken) in
+    (subst (λ (n : ℕ). cost-of (c .args .text .now) (task (c .loop-j .store) (c .loop-j .at) (c .args .base) (c .args .top) (c .args .depth) true) < n) (c .measured) f, (w .ready, (c .loop-j .inv .1, worked-stands (c .args .text .now .bytes .now) (c .args .store .now) (c .args .at) (c .args .base) (c .args .top) (c .args .depth) (c .args .n) (c .loop-j .store) (c .loop-j .at) (c .loop-j .j) (c .loop-j .given .0) w (c .loop-j-test .taken) (c .pre .stand))))
+
+pub arguments-returns-then-store-ne-GOING : need.arguments-returns-then-store-ne-GOING
+arguments-returns-then-store-ne-GOING t c =
+    let w = c .loop-j .inv .2 in
+    let m = c .value-v .ensures .moved in
+    let l = w .long in
+    record {
+      moved = moved-then (c .args .top) (c .args .top) (c .args .store .now) (c .loop-j .store) (c .value-v .last .store) (w .moved) m (omega arith);
+      there = old-set (c .loop-j .given .0) (c .loop-j .j) (c .value-v .result) (c .loop-j .store .used) (c .value-v .last .store .used) (omega arith) (m .grown .more) (c .value-v .ensures .there) (w .old);
+      say = worked-stop (c .args .text .now .bytes .now) (c .args .store .now) (c .args .at) (c .args .base) (c .args .top) (c .args .depth) (c .args .n) (c .loop-j .store) (c .loop-j .at) (c .loop-j .j) (c .loop-j .given .0) w (c .loop-j-test .taken) (c .value-v .last .store) (c .value-v .result) (c .value-v .ensures .says) _ (c .if-store-ne-GOING .taken);
+    }
+
+pub arguments-end-at-requires : need.arguments-end-at-requires
+arguments-end-at-requires t c κs =
+    let w = c .loop-j .inv .2 in
+    here (c .args .text .now) (c .loop-j .store) (c .loop-j .at) (c .args .base) (c .args .top) (c .args .depth) true (worked-stands (c .args .text .now .bytes .now) (c .args .store .now) (c .args .at) (c .args .base) (c .args .top) (c .args .depth) (c .args .n) (c .loop-j .store) (c .loop-j .at) (c .loop-j .j) (c .loop-j .given .0) w (c .loop-j-test .taken) (c .pre .stand))
+
+pub arguments-loop-j-again : need.arguments-loop-j-again
+arguments-loop-j-again t c =
+    let w = c .loop-j .inv .2 in
+    let m = c .value-v .ensures .moved in
+    let e = c .end-at .ensures in
+    (omega arith,
+      wide-part (c .args .text .now .bytes .now) (length (c .loop-j .store .frames .now)) (length (c .value-v .last .store .frames .now)) (c .loop-j .at) (c .args .base) (c .args .top) (c .args .depth) (c .loop-j .inv .1) (m .words) (c .end-at .result) (let a = e .after in omega arith),
+      worked-more (c .args .text .now .bytes .now) (c .args .store .now) (c .args .at) (c .args .base) (c .args .top) (c .args .depth) (c .args .n) (c .loop-j .store) (c .loop-j .at) (c .loop-j .j) (c .loop-j .given .0) w (c .loop-j-test .taken) (c .value-v .last .store) (c .value-v .result) (c .value-v .ensures .says) (c .end-at .result) (omega arith) m (c .value-v .ensures .there) (c .if-store-ne-GOING .left) e)
+
+pub arguments-returns : need.arguments-returns
+arguments-returns t c =
+    let w = c .loop-j .inv .2 in
+    record { moved = w .moved; there = w .old; say = worked-all (c .args .text .now .bytes .now) (c .args .store .now) (c .args .at) (c .args .base) (c .args .top) (c .args .depth) (c .args .n) (c .loop-j .store) (c .loop-j .at) (c .loop-j .j) (c .loop-j .given .0) w (let l = c .loop-j .inv .0 in omega arith) }
+
+pub value-body-holds : need.value-body-holds
+value-body-holds t c =
+    course-start (c .args .text .now .bytes .now) (c .args .store .now) (c .args .at) (c .args .base) (c .args .top) (c .args .depth) (c .args .inside) (c .pre .ready) (c .pre .wide)
+
+pub value-head-requires : need.value-head-requires
+value-head-requires t c κs =
+    let h = course-stands (c .args .text .now .bytes .now) (c .args .store .now) (c .args .at) (c .args .base) (c .args .top) (c .args .depth) (c .args .inside) (c .body .store) (c .body .at) (c .body .base) (c .body .top) (c .body .depth) (c .body .inside) (c .body .inv) (c .pre .stands) in
+    here (c .args .text .now) (c .body .store) (c .body .at) (c .body .base) (c .body .top) (c .body .depth) (c .body .inside) h
+
+pub value-variable-requires : need.value-variable-requires
+value-variable-requires t c κs =
+    let h = course-stands (c .args .text .now .bytes .now) (c .args .store .now) (c .args .at) (c .args .base) (c .args .top) (c .args .depth) (c .args .inside) (c .body .store) (c .body .at) (c .body .base) (c .body .top) (c .body .depth) (c .body .inside) (c .body .inv) (c .pre .stands) in
+    let a = c .in-Var .ensures tt in
+    let v = var-view (c .args .text .now) (c .body .store) (c .body .at) (c .body .base) (c .body .top) (c .body .depth) (c .body .inside) h (c .in-Var .i) a in
+    let w = words-above (c .args .text .now) (c .body .store) (c .body .at) (c .body .base) (c .body .top) (c .body .depth) (c .body .inside) h (c .body .inv .wide) (c .body .inv .ready) in
+    record { below = omega arith; within = omega arith }
+
+pub value-returns-in-Var : need.value-returns-in-Var
+value-returns-in-Var t c =
+    let h = course-stands (c .args .text .now .bytes .now) (c .args .store .now) (c .args .at) (c .args .base) (c .args .top) (c .args .depth) (c .args .inside) (c .body .store) (c .body .at) (c .body .base) (c .body .top) (c .body .depth) (c .body .inside) (c .body .inv) (c .pre .stands) in
+    let a = c .in-Var .ensures tt in
+    let v = var-view (c .args .text .now) (c .body .store) (c .body .at) (c .body .base) (c .body .top) (c .body .depth) (c .body .inside) h (c .in-Var .i) a in
+    record { moved = c .body .inv .moved; there = c .variable .ensures .there (c .body .base) (c .body .inv .ready) v; says = course-says (c .args .text .now .bytes .now) (c .args .store .now) (c .args .at) (c .args .base) (c .args .top) (c .args .depth) (c .args .inside) (c .body .store) (c .body .at) (c .body .base) (c .body .top) (c .body .depth) (c .body .inside) (c .body .inv) _ (path-var (c .args .text .now .bytes .now) (c .body .store) (c .body .at) (c .body .base) (c .body .top) (c .body .depth) (c .body .inside) (c .in-Var .i) (c .variable .result) (c .body .inv .ready .going) a (c .variable .ensures .is (c .body .base) (c .body .inv .ready) v)) }
+
+pub value-returns-in-Leaf : need.value-returns-in-Leaf
+value-returns-in-Leaf t c =
+    let a = c .in-Leaf .ensures tt in
+    record { moved = c .body .inv .moved; there = omega arith; says = course-says (c .args .text .now .bytes .now) (c .args .store .now) (c .args .at) (c .args .base) (c .args .top) (c .args .depth) (c .args .inside) (c .body .store) (c .body .at) (c .body .base) (c .body .top) (c .body .depth) (c .body .inside) (c .body .inv) _ (path-leaf (c .args .text .now .bytes .now) (c .body .store) (c .body .at) (c .body .base) (c .body .top) (c .body .depth) (c .body .inside) (c .body .inv .ready .going) a) }
+
+pub value-value-left-requires : need.value-value-left-requires
+value-value-left-requires t c κs =
+    let h = course-stands (c .args .text .now .bytes .now) (c .args .store .now) (c .args .at) (c .args .base) (c .args .top) (c .args .depth) (c .args .inside) (c .body .store) (c .body .at) (c .body .base) (c .body .top) (c .body .depth) (c .body .inside) (c .body .inv) (c .pre .stands) in
+    let a = c .in-Node .ensures tt in
+    let p = path-left (c .args .text .now .bytes .now) (c .body .store) (c .body .at) (c .body .base) (c .body .top) (c .body .depth) (c .body .inside) a in
+    (subst (λ (n : ℕ). cost-of (c .args .text .now) (task (c .body .store) (c .body .at + 1) (c .body .base) (c .body .top) (c .body .depth) true) < n) (c .measured) (course-falls (c .args .text .now) (c .args .store .now) (c .args .at) (c .args .base) (c .args .top) (c .args .depth) (c .args .inside) (c .body .store) (c .body .at) (c .body .base) (c .body .top) (c .body .depth) (c .body .inside) (c .pre .stands) (c .body .inv) (task (c .body .store) (c .body .at + 1) (c .body .base) (c .body .top) (c .body .depth) true) p), (c .body .inv .ready, (wide-part (c .args .text .now .bytes .now) (length (c .body .store .frames .now)) (length (c .body .store .frames .now)) (c .body .at) (c .body .base) (c .body .top) (c .body .depth) (c .body .inv .wide) refl (c .body .at + 1) (omega arith), within-stands (c .args .text .now .bytes .now) (task (c .body .store) (c .body .at + 1) (c .body .base) (c .body .top) (c .body .depth) true) (task (c .body .store) (c .body .at) (c .body .base) (c .body .top) (c .body .depth) (c .body .inside)) p h)))
+
+pub value-returns-then-store-ne-GOING : need.value-returns-then-store-ne-GOING
+value-returns-then-store-ne-GOING t c =
+    let a = c .in-Node .ensures tt in
+    record { moved = course-moved (c .args .text .now .bytes .now) (c .args .store .now) (c .args .at) (c .args .base) (c .args .top) (c .args .depth) (c .args .inside) (c .body .store) (c .body .at) (c .body .base) (c .body .top) (c .body .depth) (c .body .inside) (c .body .inv) (c .value-left .last .store) (c .value-left .ensures .moved); there = omega arith; says = course-says (c .args .text .now .bytes .now) (c .args .store .now) (c .args .at) (c .args .base) (c .args .top) (c .args .depth) (c .args .inside) (c .body .store) (c .body .at) (c .body .base) (c .body .top) (c .body .depth) (c .body .inside) (c .body .inv) _ (path-left-stops (c .args .text .now .bytes .now) (c .body .store) (c .body .at) (c .body .base) (c .body .top) (c .body .depth) (c .body .inside) (c .value-left .last .store) (c .value-left .result) a (c .if-store-ne-GOING .taken) (c .value-left .ensures .says)) }
+
+pub value-end-next-requires : need.value-end-next-requires
+value-end-next-requires t c κs =
+    let h = course-stands (c .args .text .now .bytes .now) (c .args .store .now) (c .args .at) (c .args .base) (c .args .top) (c .args .depth) (c .args .inside) (c .body .store) (c .body .at) (c .body .base) (c .body .top) (c .body .depth) (c .body .inside) (c .body .inv) (c .pre .stands) in
+    let a = c .in-Node .ensures tt in
+    here (c .args .text .now) (c .body .store) (c .body .at + 1) (c .body .base) (c .body .top) (c .body .depth) true (within-stands (c .args .text .now .bytes .now) (task (c .body .store) (c .body .at + 1) (c .body .base) (c .body .top) (c .body .depth) true) (task (c .body .store) (c .body .at) (c .body .base) (c .body .top) (c .body .depth) (c .body .inside)) (path-left (c .args .text .now .bytes .now) (c .body .store) (c .body .at) (c .body .base) (c .body .top) (c .body .depth) (c .body .inside) a) h)
+
+pub value-value-right-requires : need.value-value-right-requires
+value-value-right-requires t c κs =
+    let h = course-stands (c .args .text .now .bytes .now) (c .args .store .now) (c .args .at) (c .args .base) (c .args .top) (c .args .depth) (c .args .inside) (c .body .store) (c .body .at) (c .body .base) (c .body .top) (c .body .depth) (c .body .inside) (c .body .inv) (c .pre .stands) in
+    let a = c .in-Node .ensures tt in
+    let l = c .end-next .ensures .after in
+    let p = path-right (c .args .text .now .bytes .now) (c .body .store) (c .body .at) (c .body .base) (c .body .top) (c .body .depth) (c .body .inside) (c .body .inv .ready) (c .value-left .last .store) (c .value-left .result) (c .end-next .result) (c .value-left .ensures .moved) (c .if-store-ne-GOING .left) (c .value-left .ensures .says) (c .end-next .ensures) a in
+    (subst (λ (n : ℕ). cost-of (c .args .text .now) (task (c .value-left .last .store) (c .end-next .result) (c .body .base) (c .body .top) (c .body .depth) true) < n) (c .measured) (course-falls (c .args .text .now) (c .args .store .now) (c .args .at) (c .args .base) (c .args .top) (c .args .depth) (c .args .inside) (c .body .store) (c .body .at) (c .body .base) (c .body .top) (c .body .depth) (c .body .inside) (c .pre .stands) (c .body .inv) (task (c .value-left .last .store) (c .end-next .result) (c .body .base) (c .body .top) (c .body .depth) true) p), (still (c .body .store) (c .value-left .last .store) (c .body .base) (c .body .top) (c .body .inv .ready) (c .value-left .ensures .moved) (c .if-store-ne-GOING .left), (wide-part (c .args .text .now .bytes .now) (length (c .body .store .frames .now)) (length (c .value-left .last .store .frames .now)) (c .body .at) (c .body .base) (c .body .top) (c .body .depth) (c .body .inv .wide) (c .value-left .ensures .moved .words) (c .end-next .result) (omega arith), within-stands (c .args .text .now .bytes .now) (task (c .value-left .last .store) (c .end-next .result) (c .body .base) (c .body .top) (c .body .depth) true) (task (c .body .store) (c .body .at) (c .body .base) (c .body .top) (c .body .depth) (c .body .inside)) p h)))
+
+pub value-returns-then-store-ne-GOING-2 : need.value-returns-then-store-ne-GOING-2
+value-returns-then-store-ne-GOING-2 t c =
+    let a = c .in-Node .ensures tt in
+    record { moved = course-moved (c .args .text .now .bytes .now) (c .args .store .now) (c .args .at) (c .args .base) (c .args .top) (c .args .depth) (c .args .inside) (c .body .store) (c .body .at) (c .body .base) (c .body .top) (c .body .depth) (c .body .inside) (c .body .inv) (c .value-right .last .store) (moved-then (c .body .top) (c .body .top) (c .body .store) (c .value-left .last .store) (c .value-right .last .store) (c .value-left .ensures .moved) (c .value-right .ensures .moved) (omega arith)); there = omega arith; says = course-says (c .args .text .now .bytes .now) (c .args .store .now) (c .args .at) (c .args .base) (c .args .top) (c .args .depth) (c .args .inside) (c .body .store) (c .body .at) (c .body .base) (c .body .top) (c .body .depth) (c .body .inside) (c .body .inv) _ (path-right-stops (c .args .text .now .bytes .now) (c .body .store) (c .body .at) (c .body .base) (c .body .top) (c .body .depth) (c .body .inside) (c .body .inv .ready) (c .value-left .last .store) (c .value-left .result) (c .end-next .result) (c .value-left .ensures .moved) (c .if-store-ne-GOING .left) (c .value-left .ensures .says) (c .end-next .ensures) (c .value-right .last .store) (c .value-right .result) a (c .if-store-ne-GOING-2 .taken) (c .value-right .ensures .says)) }
+
+pub value-returns-in-Node : need.value-returns-in-Node
+value-returns-in-Node t c =
+    let a = c .in-Node .ensures tt in
+    let m = moved-then (c .body .top) (c .body .top) (c .body .store) (c .value-left .last .store) (c .value-right .last .store) (c .value-left .ensures .moved) (c .value-right .ensures .moved) (omega arith) in
+    record { moved = course-moved (c .args .text .now .bytes .now) (c .args .store .now) (c .args .at) (c .args .base) (c .args .top) (c .args .depth) (c .args .inside) (c .body .store) (c .body .at) (c .body .base) (c .body .top) (c .body .depth) (c .body .inside) (c .body .inv) (c .make .last .self) (moved-then (c .body .top) (c .body .top) (c .body .store) (c .value-right .last .store) (c .make .last .self) m (c .make .ensures .moved (c .body .top)) (omega arith)); there = c .make .ensures .there; says = course-says (c .args .text .now .bytes .now) (c .args .store .now) (c .args .at) (c .args .base) (c .args .top) (c .args .depth) (c .args .inside) (c .body .store) (c .body .at) (c .body .base) (c .body .top) (c .body .depth) (c .body .inside) (c .body .inv) _ (path-made (c .args .text .now .bytes .now) (c .body .store) (c .body .at) (c .body .base) (c .body .top) (c .body .depth) (c .body .inside) (c .body .inv .ready) (c .value-left .last .store) (c .value-left .result) (c .end-next .result) (c .value-left .ensures .moved) (c .if-store-ne-GOING .left) (c .value-left .ensures .says) (c .end-next .ensures) (c .value-right .last .store) (c .make .last .self) (c .value-right .result) (c .make .result) a (c .value-left .ensures .there) (c .value-right .ensures .moved) (c .if-store-ne-GOING-2 .left) (c .value-right .ensures .says) (c .make .ensures .comes)) }
+
+pub value-variable-whole-requires : need.value-variable-whole-requires
+value-variable-whole-requires t c κs =
+    let h = course-stands (c .args .text .now .bytes .now) (c .args .store .now) (c .args .at) (c .args .base) (c .args .top) (c .args .depth) (c .args .inside) (c .body .store) (c .body .at) (c .body .base) (c .body .top) (c .body .depth) (c .body .inside) (c .body .inv) (c .pre .stands) in
+    let a = c .in-Parts .ensures tt in
+    let v = parts-view (c .args .text .now) (c .body .store) (c .body .at) (c .body .base) (c .body .top) (c .body .depth) (c .body .inside) h (c .in-Parts .i) a in
+    let w = words-above (c .args .text .now) (c .body .store) (c .body .at) (c .body .base) (c .body .top) (c .body .depth) (c .body .inside) h (c .body .inv .wide) (c .body .inv .ready) in
+    record { below = omega arith; within = omega arith }
+
+pub value-body-less-then-whole-eq0 : need.value-body-less-then-whole-eq0
+value-body-less-then-whole-eq0 t c =
+    let h = course-stands (c .args .text .now .bytes .now) (c .args .store .now) (c .args .at) (c .args .base) (c .args .top) (c .args .depth) (c .args .inside) (c .body .store) (c .body .at) (c .body .base) (c .body .top) (c .body .depth) (c .body .inside) (c .body .inv) (c .pre .stands) in
+    let a = c .in-Parts .ensures tt in
+    let v = parts-view (c .args .text .now) (c .body .store) (c .body .at) (c .body .base) (c .body .top) (c .body .depth) (c .body .inside) h (c .in-Parts .i) a in
+    let is = c .variable-whole .ensures .is (c .body .base) (c .body .inv .ready) v in
+    let p = path-parts-leaf (c .args .text .now .bytes .now) (c .body .store) (c .body .at) (c .body .base) (c .body .top) (c .body .depth) (c .body .inside) (c .in-Parts .i) (c .variable-whole .result) a is (c .if-whole-eq0 .taken) in
+    step-falls (c .args .text .now) (c .body .store) (c .body .at) (c .body .base) (c .body .top) (c .body .depth) (c .body .inside) (c .body .store) (c .body .at + 2) (c .body .base) (c .body .top) (c .body .depth) (c .body .inside) h p
+
+pub value-body-again-then-whole-eq0 : need.value-body-again-then-whole-eq0
+value-body-again-then-whole-eq0 t c =
+    let h = course-stands (c .args .text .now .bytes .now) (c .args .store .now) (c .args .at) (c .args .base) (c .args .top) (c .args .depth) (c .args .inside) (c .body .store) (c .body .at) (c .body .base) (c .body .top) (c .body .depth) (c .body .inside) (c .body .inv) (c .pre .stands) in
+    let a = c .in-Parts .ensures tt in
+    let v = parts-view (c .args .text .now) (c .body .store) (c .body .at) (c .body .base) (c .body .top) (c .body .depth) (c .body .inside) h (c .in-Parts .i) a in
+    let is = c .variable-whole .ensures .is (c .body .base) (c .body .inv .ready) v in
+    let p = path-parts-leaf (c .args .text .now .bytes .now) (c .body .store) (c .body .at) (c .body .base) (c .body .top) (c .body .depth) (c .body .inside) (c .in-Parts .i) (c .variable-whole .result) a is (c .if-whole-eq0 .taken) in
+    course-step (c .args .text .now .bytes .now) (c .args .store .now) (c .args .at) (c .args .base) (c .args .top) (c .args .depth) (c .args .inside) (c .body .store) (c .body .at) (c .body .base) (c .body .top) (c .body .depth) (c .body .inside) (c .body .inv) (c .body .store) (c .body .at + 2) (c .body .base) (c .body .top) (c .body .depth) (c .body .inside) (c .body .inv .ready) (wide-part (c .args .text .now .bytes .now) (length (c .body .store .frames .now)) (length (c .body .store .frames .now)) (c .body .at) (c .body .base) (c .body .top) (c .body .depth) (c .body .inv .wide) refl (c .body .at + 2) (omega arith)) (moved-same _ (c .body .store) (c .body .base) (c .body .top) (c .body .inv .ready)) (omega arith) p
+
+pub value-keep-parts-requires : need.value-keep-parts-requires
+value-keep-parts-requires t c κs =
+    let h = course-stands (c .args .text .now .bytes .now) (c .args .store .now) (c .args .at) (c .args .base) (c .args .top) (c .args .depth) (c .args .inside) (c .body .store) (c .body .at) (c .body .base) (c .body .top) (c .body .depth) (c .body .inside) (c .body .inv) (c .pre .stands) in
+    let a = c .in-Parts .ensures tt in
+    let v = parts-view (c .args .text .now) (c .body .store) (c .body .at) (c .body .base) (c .body .top) (c .body .depth) (c .body .inside) h (c .in-Parts .i) a in
+    let w = words-above (c .args .text .now) (c .body .store) (c .body .at) (c .body .base) (c .body .top) (c .body .depth) (c .body .inside) h (c .body .inv .wide) (c .body .inv .ready) in
+    record { well = c .body .inv .ready .well; within = omega arith; node = (let z = c .if-whole-eq0 .left in omega arith); there = c .variable-whole .ensures .there (c .body .base) (c .body .inv .ready) v }
+
+pub value-end-at-requires : need.value-end-at-requires
+value-end-at-requires t c κs =
+    let h = course-stands (c .args .text .now .bytes .now) (c .args .store .now) (c .args .at) (c .args .base) (c .args .top) (c .args .depth) (c .args .inside) (c .body .store) (c .body .at) (c .body .base) (c .body .top) (c .body .depth) (c .body .inside) (c .body .inv) (c .pre .stands) in
+    let a = c .in-Parts .ensures tt in
+    here-parts (c .args .text .now) (c .body .store) (c .body .at) (c .body .base) (c .body .top) (c .body .depth) (c .body .inside) h (c .in-Parts .i) a
+
+pub value-body-less-in-Parts : need.value-body-less-in-Parts
+value-body-less-in-Parts t c =
+    let h = course-stands (c .args .text .now .bytes .now) (c .args .store .now) (c .args .at) (c .args .base) (c .args .top) (c .args .depth) (c .args .inside) (c .body .store) (c .body .at) (c .body .base) (c .body .top) (c .body .depth) (c .body .inside) (c .body .inv) (c .pre .stands) in
+    let a = c .in-Parts .ensures tt in
+    let v = parts-view (c .args .text .now) (c .body .store) (c .body .at) (c .body .base) (c .body .top) (c .body .depth) (c .body .inside) h (c .in-Parts .i) a in
+    let is = c .variable-whole .ensures .is (c .body .base) (c .body .inv .ready) v in
+    let nd = c .variable-whole .ensures .there (c .body .base) (c .body .inv .ready) v in
+    let q = tree-parts (c .body .store .nodes .now) (c .body .store .used) (c .body .inv .ready .well .sound) (c .variable-whole .result) (let z = c .if-whole-eq0 .left in omega arith) nd in
+    let held = c .keep-parts .ensures (c .body .base) (c .body .inv .ready) in
+    let p = path-parts-node (c .args .text .now .bytes .now) (c .body .store) (c .body .at) (c .body .base) (c .body .top) (c .body .depth) (c .body .inside) (c .in-Parts .i) (c .variable-whole .result) (c .end-at .result) (c .keep-parts .last .self) a (c .end-at .ensures) is (is-node _ _ _ (q .whole)) held in
+    step-falls (c .args .text .now) (c .body .store) (c .body .at) (c .body .base) (c .body .top) (c .body .depth) (c .body .inside) (c .keep-parts .last .self) (c .end-at .result) (c .body .base) (c .body .top + 2) (c .body .depth) (c .body .inside) h p
+
+pub value-body-again-in-Parts : need.value-body-again-in-Parts
+value-body-again-in-Parts t c =
+    let h = course-stands (c .args .text .now .bytes .now) (c .args .store .now) (c .args .at) (c .args .base) (c .args .top) (c .args .depth) (c .args .inside) (c .body .store) (c .body .at) (c .body .base) (c .body .top) (c .body .depth) (c .body .inside) (c .body .inv) (c .pre .stands) in
+    let a = c .in-Parts .ensures tt in
+    let v = parts-view (c .args .text .now) (c .body .store) (c .body .at) (c .body .base) (c .body .top) (c .body .depth) (c .body .inside) h (c .in-Parts .i) a in
+    let is = c .variable-whole .ensures .is (c .body .base) (c .body .inv .ready) v in
+    let nd = c .variable-whole .ensures .there (c .body .base) (c .body .inv .ready) v in
+    let q = tree-parts (c .body .store .nodes .now) (c .body .store .used) (c .body .inv .ready .well .sound) (c .variable-whole .result) (let z = c .if-whole-eq0 .left in omega arith) nd in
+    let held = c .keep-parts .ensures (c .body .base) (c .body .inv .ready) in
+    let p = path-parts-node (c .args .text .now .bytes .now) (c .body .store) (c .body .at) (c .body .base) (c .body .top) (c .body .depth) (c .body .inside) (c .in-Parts .i) (c .variable-whole .result) (c .end-at .result) (c .keep-parts .last .self) a (c .end-at .ensures) is (is-node _ _ _ (q .whole)) held in
+    let l = c .end-at .ensures .after in
+    course-up (c .args .text .now .bytes .now) (c .args .store .now) (c .args .at) (c .args .base) (c .args .top) (c .args .depth) (c .args .inside) (c .body .store) (c .body .at) (c .body .base) (c .body .top) (c .body .depth) (c .body .inside) (c .body .inv) (c .keep-parts .last .self) (c .end-at .result) (c .body .top + 2) (held .ready) (wide-two (c .args .text .now .bytes .now) (length (c .body .store .frames .now)) (length (c .keep-parts .last .self .frames .now)) (c .body .at) (c .body .base) (c .body .top) (c .body .depth) (c .body .inv .wide) (held .moved .words) (c .end-at .result) (omega arith)) (held .moved) (omega arith) p
+
+pub value-value-bound-requires : need.value-value-bound-requires
+value-value-bound-requires t c κs =
+    let h = course-stands (c .args .text .now .bytes .now) (c .args .store .now) (c .args .at) (c .args .base) (c .args .top) (c .args .depth) (c .args .inside) (c .body .store) (c .body .at) (c .body .base) (c .body .top) (c .body .depth) (c .body .inside) (c .body .inv) (c .pre .stands) in
+    let a = c .in-Bind .ensures tt in
+    let p = path-value (c .args .text .now .bytes .now) (c .body .store) (c .body .at) (c .body .base) (c .body .top) (c .body .depth) (c .body .inside) a in
+    (subst (λ (n : ℕ). cost-of (c .args .text .now) (task (c .body .store) (c .body .at + 1) (c .body .base) (c .body .top) (c .body .depth) true) < n) (c .measured) (course-falls (c .args .text .now) (c .args .store .now) (c .args .at) (c .args .base) (c .args .top) (c .args .depth) (c .args .inside) (c .body .store) (c .body .at) (c .body .base) (c .body .top) (c .body .depth) (c .body .inside) (c .pre .stands) (c .body .inv) (task (c .body .store) (c .body .at + 1) (c .body .base) (c .body .top) (c .body .depth) true) p), (c .body .inv .ready, (wide-part (c .args .text .now .bytes .now) (length (c .body .store .frames .now)) (length (c .body .store .frames .now)) (c .body .at) (c .body .base) (c .body .top) (c .body .depth) (c .body .inv .wide) refl (c .body .at + 1) (omega arith), within-stands (c .args .text .now .bytes .now) (task (c .body .store) (c .body .at + 1) (c .body .base) (c .body .top) (c .body .depth) true) (task (c .body .store) (c .body .at) (c .body .base) (c .body .top) (c .body .depth) (c .body .inside)) p h)))
+
+pub value-returns-then-store-ne-GOING-3 : need.value-returns-then-store-ne-GOING-3
+value-returns-then-store-ne-GOING-3 t c =
+    let a = c .in-Bind .ensures tt in
+    record { moved = course-moved (c .args .text .now .bytes .now) (c .args .store .now) (c .args .at) (c .args .base) (c .args .top) (c .args .depth) (c .args .inside) (c .body .store) (c .body .at) (c .body .base) (c .body .top) (c .body .depth) (c .body .inside) (c .body .inv) (c .value-bound .last .store) (c .value-bound .ensures .moved); there = omega arith; says = course-says (c .args .text .now .bytes .now) (c .args .store .now) (c .args .at) (c .args .base) (c .args .top) (c .args .depth) (c .args .inside) (c .body .store) (c .body .at) (c .body .base) (c .body .top) (c .body .depth) (c .body .inside) (c .body .inv) _ (path-value-stops (c .args .text .now .bytes .now) (c .body .store) (c .body .at) (c .body .base) (c .body .top) (c .body .depth) (c .body .inside) (c .value-bound .last .store) (c .value-bound .result) a (c .if-store-ne-GOING-3 .taken) (c .value-bound .ensures .says)) }
+
+pub value-end-at-requires-in-Bind : need.value-end-at-requires-in-Bind
+value-end-at-requires-in-Bind t c κs =
+    let h = course-stands (c .args .text .now .bytes .now) (c .args .store .now) (c .args .at) (c .args .base) (c .args .top) (c .args .depth) (c .args .inside) (c .body .store) (c .body .at) (c .body .base) (c .body .top) (c .body .depth) (c .body .inside) (c .body .inv) (c .pre .stands) in
+    let a = c .in-Bind .ensures tt in
+    here (c .args .text .now) (c .body .store) (c .body .at + 1) (c .body .base) (c .body .top) (c .body .depth) true (within-stands (c .args .text .now .bytes .now) (task (c .body .store) (c .body .at + 1) (c .body .base) (c .body .top) (c .body .depth) true) (task (c .body .store) (c .body .at) (c .body .base) (c .body .top) (c .body .depth) (c .body .inside)) (path-value (c .args .text .now .bytes .now) (c .body .store) (c .body .at) (c .body .base) (c .body .top) (c .body .depth) (c .body .inside) a) h)
+
+pub value-body-less-in-Bind : need.value-body-less-in-Bind
+value-body-less-in-Bind t c =
+    let h = course-stands (c .args .text .now .bytes .now) (c .args .store .now) (c .args .at) (c .args .base) (c .args .top) (c .args .depth) (c .args .inside) (c .body .store) (c .body .at) (c .body .base) (c .body .top) (c .body .depth) (c .body .inside) (c .body .inv) (c .pre .stands) in
+    let a = c .in-Bind .ensures tt in
+    let m = c .value-bound .ensures .moved in
+    let r1 = still (c .body .store) (c .value-bound .last .store) (c .body .base) (c .body .top) (c .body .inv .ready) m (c .if-store-ne-GOING-3 .left) in
+    let held = c .keep .ensures (c .body .base) r1 (c .value-bound .ensures .there) in
+    let p = path-bound (c .args .text .now .bytes .now) (c .body .store) (c .body .at) (c .body .base) (c .body .top) (c .body .depth) (c .body .inside) (c .body .inv .ready) (c .value-bound .last .store) (c .value-bound .result) (c .end-at-in-Bind .result) m (c .if-store-ne-GOING-3 .left) (c .value-bound .ensures .says) (c .end-at-in-Bind .ensures) (c .keep .last .self) a held in
+    step-falls (c .args .text .now) (c .body .store) (c .body .at) (c .body .base) (c .body .top) (c .body .depth) (c .body .inside) (c .keep .last .self) (c .end-at-in-Bind .result) (c .body .base) (c .body .top + 1) (c .body .depth) (c .body .inside) h p
+
+pub value-body-again-in-Bind : need.value-body-again-in-Bind
+value-body-again-in-Bind t c =
+    let h = course-stands (c .args .text .now .bytes .now) (c .args .store .now) (c .args .at) (c .args .base) (c .args .top) (c .args .depth) (c .args .inside) (c .body .store) (c .body .at) (c .body .base) (c .body .top) (c .body .depth) (c .body .inside) (c .body .inv) (c .pre .stands) in
+    let a = c .in-Bind .ensures tt in
+    let m = c .value-bound .ensures .moved in
+    let r1 = still (c .body .store) (c .value-bound .last .store) (c .body .base) (c .body .top) (c .body .inv .ready) m (c .if-store-ne-GOING-3 .left) in
+    let held = c .keep .ensures (c .body .base) r1 (c .value-bound .ensures .there) in
+    let p = path-bound (c .args .text .now .bytes .now) (c .body .store) (c .body .at) (c .body .base) (c .body .top) (c .body .depth) (c .body .inside) (c .body .inv .ready) (c .value-bound .last .store) (c .value-bound .result) (c .end-at-in-Bind .result) m (c .if-store-ne-GOING-3 .left) (c .value-bound .ensures .says) (c .end-at-in-Bind .ensures) (c .keep .last .self) a held in
+    let l = c .end-at-in-Bind .ensures .after in
+    course-up (c .args .text .now .bytes .now) (c .args .store .now) (c .args .at) (c .args .base) (c .args .top) (c .args .depth) (c .args .inside) (c .body .store) (c .body .at) (c .body .base) (c .body .top) (c .body .depth) (c .body .inside) (c .body .inv) (c .keep .last .self) (c .end-at-in-Bind .result) (c .body .top + 1) (held .ready) (wide-one (c .args .text .now .bytes .now) (length (c .body .store .frames .now)) (length (c .keep .last .self .frames .now)) (c .body .at) (c .body .base) (c .body .top) (c .body .depth) (c .body .inv .wide) (held .moved .words ∙ m .words) (c .end-at-in-Bind .result) (omega arith)) (moved-then (c .body .top) (c .body .top) (c .body .store) (c .value-bound .last .store) (c .keep .last .self) m (held .moved) (omega arith)) (omega arith) p
+
+pub value-arguments-given-requires : need.value-arguments-given-requires
+value-arguments-given-requires t c κs =
+    let h = course-stands (c .args .text .now .bytes .now) (c .args .store .now) (c .args .at) (c .args .base) (c .args .top) (c .args .depth) (c .args .inside) (c .body .store) (c .body .at) (c .body .base) (c .body .top) (c .body .depth) (c .body .inside) (c .body .inv) (c .pre .stands) in
+    let a = c .in-Call .ensures tt in
+    let p = path-args (c .args .text .now .bytes .now) (c .body .store) (c .body .at) (c .body .base) (c .body .top) (c .body .depth) (c .body .inside) (c .in-Call .f) (c .in-Call .n) a in
+    (subst (λ (n : ℕ). cost-of (c .args .text .now) (tasks (c .body .store) (c .body .at + 3) (c .body .base) (c .body .top) (c .body .depth) (c .in-Call .n)) < n) (c .measured) (course-falls (c .args .text .now) (c .args .store .now) (c .args .at) (c .args .base) (c .args .top) (c .args .depth) (c .args .inside) (c .body .store) (c .body .at) (c .body .base) (c .body .top) (c .body .depth) (c .body .inside) (c .pre .stands) (c .body .inv) (tasks (c .body .store) (c .body .at + 3) (c .body .base) (c .body .top) (c .body .depth) (c .in-Call .n)) p), (few-given (c .args .text .now) (c .body .store) (c .body .at) (c .body .base) (c .body .top) (c .body .depth) (c .body .inside) h (c .in-Call .f) (c .in-Call .n) a, (c .body .inv .ready, (wide-part (c .args .text .now .bytes .now) (length (c .body .store .frames .now)) (length (c .body .store .frames .now)) (c .body .at) (c .body .base) (c .body .top) (c .body .depth) (c .body .inv .wide) refl (c .body .at + 3) (omega arith), within-stands (c .args .text .now .bytes .now) (tasks (c .body .store) (c .body .at + 3) (c .body .base) (c .body .top) (c .body .depth) (c .in-Call .n)) (task (c .body .store) (c .body .at) (c .body .base) (c .body .top) (c .body .depth) (c .body .inside)) p h))))
+
+pub value-returns-then-store-ne-GOING-4 : need.value-returns-then-store-ne-GOING-4
+value-returns-then-store-ne-GOING-4 t c =
+    let a = c .in-Call .ensures tt in
+    record { moved = course-moved (c .args .text .now .bytes .now) (c .args .store .now) (c .args .at) (c .args .base) (c .args .top) (c .args .depth) (c .args .inside) (c .body .store) (c .body .at) (c .body .base) (c .body .top) (c .body .depth) (c .body .inside) (c .body .inv) (c .arguments-given .last .store) (c .arguments-given .ensures .moved); there = omega arith; says = course-says (c .args .text .now .bytes .now) (c .args .store .now) (c .args .at) (c .args .base) (c .args .top) (c .args .depth) (c .args .inside) (c .body .store) (c .body .at) (c .body .base) (c .body .top) (c .body .depth) (c .body .inside) (c .body .inv) _ (path-args-stop (c .args .text .now .bytes .now) (c .body .store) (c .body .at) (c .body .base) (c .body .top) (c .body .depth) (c .body .inside) (c .in-Call .f) (c .in-Call .n) a (c .arguments-given .last .store) (c .arguments-given .result .0) (c .arguments-given .ensures .say) (c .if-store-ne-GOING-4 .taken)) }
+
+pub value-returns-then-depth-eq0 : need.value-returns-then-depth-eq0
+value-returns-then-depth-eq0 t c =
+    let a = c .in-Call .ensures tt in
+    let one = (c .arguments-given .last .store) in
+    let st : Store = record { nodes = one .nodes; used = one .used; limit = one .limit; frames = one .frames; stop = 2 } in
+    record { moved = course-moved (c .args .text .now .bytes .now) (c .args .store .now) (c .args .at) (c .args .base) (c .args .top) (c .args .depth) (c .args .inside) (c .body .store) (c .body .at) (c .body .base) (c .body .top) (c .body .depth) (c .body .inside) (c .body .inv) st (moved-stopped (c .body .top) (c .body .store) (c .arguments-given .last .store) st (c .arguments-given .ensures .moved) refl refl refl refl); there = omega arith; says = course-says (c .args .text .now .bytes .now) (c .args .store .now) (c .args .at) (c .args .base) (c .args .top) (c .args .depth) (c .args .inside) (c .body .store) (c .body .at) (c .body .base) (c .body .top) (c .body .depth) (c .body .inside) (c .body .inv) _ (path-deep (c .args .text .now .bytes .now) (c .body .store) (c .body .at) (c .body .base) (c .body .top) (c .body .depth) (c .body .inside) (c .in-Call .f) (c .in-Call .n) a (c .arguments-given .last .store) (c .arguments-given .result .0) (c .arguments-given .ensures .say) st (c .if-store-ne-GOING-4 .left) (c .if-inside .taken) (c .if-depth-eq0 .taken) refl) }
+
+pub value-give-requires : need.value-give-requires
+value-give-requires t c κs =
+    let h = course-stands (c .args .text .now .bytes .now) (c .args .store .now) (c .args .at) (c .args .base) (c .args .top) (c .args .depth) (c .args .inside) (c .body .store) (c .body .at) (c .body .base) (c .body .top) (c .body .depth) (c .body .inside) (c .body .inv) (c .pre .stands) in
+    let a = c .in-Call .ensures tt in
+    let e : Enters (c .body .base) (c .body .top) (c .body .depth) (c .body .inside) (c .if-inside .base) (c .if-inside .depth) (c .if-inside .inside) = elim (c .if-inside .came) [
+      value-then-inside·else-depth-eq0 w ↦ opened (c .body .base) (c .body .top) (c .body .depth) (c .body .inside) (c .if-inside .base) (c .if-inside .depth) (c .if-inside .inside) (w .if-inside .taken) (w .inside-is) (w .base-is) (let z = w .if-depth-eq0 .left in let y = w .depth-is in omega arith)
+      | value-else-inside w ↦ replaced (c .body .base) (c .body .top) (c .body .depth) (c .body .inside) (c .if-inside .base) (c .if-inside .depth) (c .if-inside .inside) (w .if-inside .left) (w .inside-is) (w .base-is) (w .depth-is) ] in
+    let few = few-given (c .args .text .now) (c .body .store) (c .body .at) (c .body .base) (c .body .top) (c .body .depth) (c .body .inside) h (c .in-Call .f) (c .in-Call .n) a in
+    record { few = few; within = enters-words (c .args .text .now) (c .body .store) (c .body .at) (c .body .base) (c .body .top) (c .body .depth) (c .body .inside) (c .if-inside .base) (c .if-inside .depth) (c .if-inside .inside) h (c .body .inv .ready) (c .body .inv .wide) (length (c .arguments-given .last .store .frames .now)) (c .arguments-given .ensures .moved .words) (c .in-Call .n) few e }
+
+pub value-body-at-requires : need.value-body-at-requires
+value-body-at-requires t c κs =
+    let h = course-stands (c .args .text .now .bytes .now) (c .args .store .now) (c .args .at) (c .args .base) (c .args .top) (c .args .depth) (c .args .inside) (c .body .store) (c .body .at) (c .body .base) (c .body .top) (c .body .depth) (c .body .inside) (c .body .inv) (c .pre .stands) in
+    let a = c .in-Call .ensures tt in
+    call-numbered (c .args .text .now) (c .body .store) (c .body .at) (c .body .base) (c .body .top) (c .body .depth) (c .body .inside) h (c .in-Call .f) (c .in-Call .n) a
+
+pub value-body-less : need.value-body-less
+value-body-less t c =
+    let h = course-stands (c .args .text .now .bytes .now) (c .args .store .now) (c .args .at) (c .args .base) (c .args .top) (c .args .depth) (c .args .inside) (c .body .store) (c .body .at) (c .body .base) (c .body .top) (c .body .depth) (c .body .inside) (c .body .inv) (c .pre .stands) in
+    let a = c .in-Call .ensures tt in
+    let e : Enters (c .body .base) (c .body .top) (c .body .depth) (c .body .inside) (c .if-inside .base) (c .if-inside .depth) (c .if-inside .inside) = elim (c .if-inside .came) [
+      value-then-inside·else-depth-eq0 w ↦ opened (c .body .base) (c .body .top) (c .body .depth) (c .body .inside) (c .if-inside .base) (c .if-inside .depth) (c .if-inside .inside) (w .if-inside .taken) (w .inside-is) (w .base-is) (let z = w .if-depth-eq0 .left in let y = w .depth-is in omega arith)
+      | value-else-inside w ↦ replaced (c .body .base) (c .body .top) (c .body .depth) (c .body .inside) (c .if-inside .base) (c .if-inside .depth) (c .if-inside .inside) (w .if-inside .left) (w .inside-is) (w .base-is) (w .depth-is) ] in
+    let held = c .give .ensures (c .arguments-given .ensures .moved .well) (c .if-store-ne-GOING-4 .left) (c .arguments-given .ensures .there) in
+    let p = enters-leads (c .args .text .now .bytes .now) (c .body .store) (c .body .at) (c .body .base) (c .body .top) (c .body .depth) (c .body .inside) (c .in-Call .f) (c .in-Call .n) a (c .arguments-given .last .store) (c .arguments-given .result .0) (c .arguments-given .ensures .say) (c .if-store-ne-GOING-4 .left) (c .give .last .self) (c .body-at .result) (c .body-at .ensures .there) (c .if-inside .base) (c .if-inside .depth) (c .if-inside .inside) e held in
+    step-falls (c .args .text .now) (c .body .store) (c .body .at) (c .body .base) (c .body .top) (c .body .depth) (c .body .inside) (c .give .last .self) (c .body-at .result) (c .if-inside .base) (c .if-inside .base + c .in-Call .n) (c .if-inside .depth) (c .if-inside .inside) h p
+
+pub value-body-again : need.value-body-again
+value-body-again t c =
+    let h = course-stands (c .args .text .now .bytes .now) (c .args .store .now) (c .args .at) (c .args .base) (c .args .top) (c .args .depth) (c .args .inside) (c .body .store) (c .body .at) (c .body .base) (c .body .top) (c .body .depth) (c .body .inside) (c .body .inv) (c .pre .stands) in
+    let a = c .in-Call .ensures tt in
+    let e : Enters (c .body .base) (c .body .top) (c .body .depth) (c .body .inside) (c .if-inside .base) (c .if-inside .depth) (c .if-inside .inside) = elim (c .if-inside .came) [
+      value-then-inside·else-depth-eq0 w ↦ opened (c .body .base) (c .body .top) (c .body .depth) (c .body .inside) (c .if-inside .base) (c .if-inside .depth) (c .if-inside .inside) (w .if-inside .taken) (w .inside-is) (w .base-is) (let z = w .if-depth-eq0 .left in let y = w .depth-is in omega arith)
+      | value-else-inside w ↦ replaced (c .body .base) (c .body .top) (c .body .depth) (c .body .inside) (c .if-inside .base) (c .if-inside .depth) (c .if-inside .inside) (w .if-inside .left) (w .inside-is) (w .base-is) (w .depth-is) ] in
+    let held = c .give .ensures (c .arguments-given .ensures .moved .well) (c .if-store-ne-GOING-4 .left) (c .arguments-given .ensures .there) in
+    let p = enters-leads (c .args .text .now .bytes .now) (c .body .store) (c .body .at) (c .body .base) (c .body .top) (c .body .depth) (c .body .inside) (c .in-Call .f) (c .in-Call .n) a (c .arguments-given .last .store) (c .arguments-given .result .0) (c .arguments-given .ensures .say) (c .if-store-ne-GOING-4 .left) (c .give .last .self) (c .body-at .result) (c .body-at .ensures .there) (c .if-inside .base) (c .if-inside .depth) (c .if-inside .inside) e held in
+    let wide = enters-wide (c .args .text .now) (c .body .store) (c .body .at) (c .body .base) (c .body .top) (c .body .depth) (c .body .inside) (c .if-inside .base) (c .if-inside .depth) (c .if-inside .inside) h (c .body .inv .ready) (c .body .inv .wide) (length (c .give .last .self .frames .now)) (held .moved .words ∙ c .arguments-given .ensures .moved .words) (c .body-at .result) (c .in-Call .n) (few-given (c .args .text .now) (c .body .store) (c .body .at) (c .body .base) (c .body .top) (c .body .depth) (c .body .inside) h (c .in-Call .f) (c .in-Call .n) a) (c .body-at .ensures .after) e in
+    course-enters (c .args .text .now .bytes .now) (c .args .store .now) (c .args .at) (c .args .base) (c .args .top) (c .args .depth) (c .args .inside) (c .body .store) (c .body .at) (c .body .base) (c .body .top) (c .body .depth) (c .body .inside) (c .body .inv) (c .arguments-given .last .store) (c .give .last .self) (c .body-at .result) (c .if-inside .base) (c .in-Call .n) (c .if-inside .depth) (c .if-inside .inside) _ e (c .arguments-given .ensures .moved) held wide p

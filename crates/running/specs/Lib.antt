@@ -1,0 +1,2 @@
+-- What a run comes to.
+pub mod Runs
