@@ -16,6 +16,8 @@ pub const MOST_VALUE_BYTES: usize = 1 << 26;
 
 /// A script: its bytes, which may or may not be a program that ends.
 ///
+/// It keeps the memory of its calls, so these wait for each other; clones don't.
+///
 /// ```
 /// use pegsienna::{Limits, Script, Stop, Tree, Verdict};
 ///
@@ -98,8 +100,9 @@ impl Script {
         let call = Call { function, args: &bytes, depth: limits.depth, room: limits.room };
         // without sharing, a value has no more nodes than were given and made
         let nodes = bytes.len() / 2 + limits.room as usize;
-        match self.call_within(call, (2 * nodes + 1).min(MOST_VALUE_BYTES)) {
-            Err(Stop::OutFull) => self.call_within(call, MOST_VALUE_BYTES),
+        let out = MOST_VALUE_BYTES.min(2 * nodes + 1);
+        match self.call_within(call, out) {
+            Err(Stop::OutFull) if out < MOST_VALUE_BYTES => self.call_within(call, MOST_VALUE_BYTES),
             answer => answer,
         }
     }

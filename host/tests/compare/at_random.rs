@@ -4,7 +4,7 @@ use pegsienna::slices::{Call, Stop, Verdict};
 
 use crate::judge::{self, How};
 use crate::machine::{Answer, Machine, for_each};
-use crate::program::{self, Program};
+use crate::program::{self, Expr, Fun, Program};
 use crate::random::{self, Random};
 use crate::run::{self, Tree};
 use crate::second;
@@ -118,6 +118,61 @@ fn programs_at_random() {
     counts.into_iter().for_each(|counts| all.add(counts));
     println!("programs at random: {all:?}");
     assert!(all.programs >= 400 && 2 * all.with_reason_and_round >= all.programs);
+}
+
+/// Programs of up to 64 functions and 4,096 bytes, judged only: half of them made at once, half joined of small ones that nearly all end.
+#[test]
+fn large_programs_at_random() {
+    let seeds: Vec<u64> = (0..300).collect();
+    let counts = for_each(&seeds, |machine, counts: &mut Vec<(usize, u32, Verdict)>, &seed| {
+        let mut random = Random::new(5000 + seed);
+        let program = if seed % 2 == 0 {
+            let (count, size) = (8 + random.below(57), 3 + random.below(12));
+            random::program_of(&mut random, count, size, 1)
+        } else {
+            joined(&mut random)
+        };
+        let script = program::write(&program);
+        let verdict = second::judge(&script, 4096);
+        let ways = judge::ways(&program, 4096).map(|ways| ways.len() as u32);
+        assert_eq!(machine.judge(&script, 4096), verdict, "{script:?}");
+        assert_eq!(machine.number_of_ways(&script, 4096), ways, "{script:?}");
+        counts.push((script.len(), ways.unwrap_or(0), verdict));
+    });
+    let all: Vec<_> = counts.into_iter().flatten().collect();
+    let ending = all.iter().filter(|(_, _, verdict)| *verdict == Verdict::Ends).count();
+    let (bytes, ways) = all.iter().fold((0, 0), |(bytes, ways), case| (case.0.max(bytes), case.1.max(ways)));
+    println!("large programs: {} programs of up to {bytes} bytes and {ways} ways, {ending} end", all.len());
+    assert!(ending > 50 && bytes > 2000);
+}
+
+/// Small programs one after the other, until there are about so many functions; rarely one without the reason.
+fn joined(random: &mut Random) -> Program {
+    let mut program = Program::new();
+    let most = 20 + random.below(45);
+    loop {
+        let next = case(random);
+        let length = program::write(&program).len() + next.script.len();
+        if program.len() + next.program.len() > most || length > 4096 {
+            return program;
+        }
+        if next.verdict == Verdict::Ends || random.percent(1) {
+            let by = program.len();
+            program.extend(next.program.into_iter().map(|fun| Fun { args: fun.args, body: shifted(fun.body, by) }));
+        }
+    }
+}
+
+/// The same expression with every function's number so much higher.
+fn shifted(e: Expr, by: usize) -> Expr {
+    let shift = |e: Box<Expr>| Box::new(shifted(*e, by));
+    match e {
+        Expr::Var(_) | Expr::Leaf => e,
+        Expr::Node(a, b) => Expr::Node(shift(a), shift(b)),
+        Expr::Parts(i, a, b) => Expr::Parts(i, shift(a), shift(b)),
+        Expr::Bind(a, b) => Expr::Bind(shift(a), shift(b)),
+        Expr::Call(f, es) => Expr::Call(f + by, es.into_iter().map(|e| shifted(e, by)).collect()),
+    }
 }
 
 fn verdict_and_ways(machine: &mut Machine, counts: &mut Counts, case: &Case) {

@@ -1,5 +1,7 @@
 //! Programs and bytes made at random, the same for the same seed.
 
+use std::ops::Range;
+
 use crate::program::{Expr, Fun, Program};
 
 /// The generator splitmix64.
@@ -34,18 +36,23 @@ impl Random {
 /// A program whose calls often pass an argument on in its place, or a part of it, so that many have the reason.
 pub fn program(random: &mut Random) -> Program {
     let count = 1 + random.pick(&[0, 0, 0, 1, 1, 1, 2, 2, 3, 5]);
+    let size = random.pick(&[4, 8, 12, 20]);
+    program_of(random, count, size, count)
+}
+
+/// A program of so many functions, each with so many larger expressions, that call those at most so far away.
+pub fn program_of(random: &mut Random, count: usize, size: usize, reach: usize) -> Program {
     let arities: Vec<usize> = (0..count).map(|_| random.pick(&[0, 1, 1, 1, 2, 2, 2, 2, 3, 3, 4, 8])).collect();
     let shuffle = random.pick(&[0, 0, 10, 40]);
     let turn = random.pick(&[0, 0, 1]);
-    let size = random.pick(&[4, 8, 12, 20]);
-    arities
-        .iter()
-        .map(|&args| {
-            let mut maker = Maker { random, arities: &arities, left: size, shuffle, turn };
-            let view = (0..args).map(|i| Some((i, false))).collect();
-            Fun { args, body: maker.last(view) }
-        })
-        .collect()
+    let mut program = Vec::new();
+    for (own, &args) in arities.iter().enumerate() {
+        let near = own.saturating_sub(reach)..(own + reach + 1).min(count);
+        let mut maker = Maker { random, arities: &arities, near, left: size, shuffle, turn };
+        let view = (0..args).map(|i| Some((i, false))).collect();
+        program.push(Fun { args, body: maker.last(view) });
+    }
+    program
 }
 
 /// What is known of a variable: the argument, and whether it is a part of it.
@@ -54,6 +61,8 @@ type Known = Option<(usize, bool)>;
 struct Maker<'a> {
     random: &'a mut Random,
     arities: &'a [usize],
+    /// The functions that may be called.
+    near: Range<usize>,
     /// How many larger expressions may still be made.
     left: usize,
     /// In how many of a hundred cases a call's argument is any variable.
@@ -96,7 +105,7 @@ impl Maker<'_> {
     }
 
     fn call(&mut self, view: &[Known]) -> Expr {
-        let f = self.random.below(self.arities.len());
+        let f = self.near.start + self.random.below(self.near.len());
         let arity = self.arities[f];
         let turn = if self.random.percent(80) { self.turn } else { 0 };
         let args = (0..arity).map(|j| self.argument(view, (j + turn) % arity)).collect();

@@ -99,3 +99,34 @@ fn bad_calls_and_unproved_scripts() {
         assert_eq!(machine.go(&identity, 0, Call { function: 0, args, depth: 0, room: 0 }, 1), answer);
     }
 }
+
+/// A program has at most 4,096 bytes, 64 functions and 8 arguments each.
+#[test]
+fn the_limits_of_a_program() {
+    with_stack(|| {
+        let mut machine = Machine::default();
+        let nodes = |args: u8, count: usize| [vec![args], vec![2; count], vec![1; count + 1]].concat();
+        let padded = |bytes: &[u8]| [bytes, &[0, 1]].concat();
+        for (script, verdict) in [
+            (nodes(0, 2047), Ends),
+            (padded(&nodes(0, 2046)), Ends),
+            (padded(&nodes(0, 2047)), Verdict::NoProgram),
+            ([0, 0x4].iter().copied().chain([1; 4096]).collect(), Verdict::NoProgram),
+            ([0, 1].repeat(64), Ends),
+            ([0, 1].repeat(65), Verdict::NoProgram),
+            (vec![8, 0, 7], Ends),
+            (vec![8, 0, 8], Verdict::NoProgram),
+            (vec![9, 0, 7], Verdict::NoProgram),
+            (vec![1, 3, 0, 0, 0, 0, 2], Ends),
+            (vec![1, 3, 0, 0, 0, 0, 3], Verdict::NoProgram),
+            (vec![1, 3, 0, 0, 1, 0, 2], Verdict::NoProgram),
+            (vec![1, 4, 0, 1, 1], Verdict::NoProgram),
+            (vec![1, 4, 1, 0, 1], Ends),
+            (vec![0, 5, 63, 0], Verdict::NoProgram),
+            (vec![0, 5, 0, 1, 1], Verdict::NoProgram),
+        ] {
+            assert_eq!(machine.judge(&script, 4096), verdict, "{script:?}");
+            assert_eq!(second::judge(&script, 4096), verdict, "{script:?}");
+        }
+    });
+}
