@@ -127,7 +127,7 @@ fn large_programs_at_random() {
     let counts = for_each(&seeds, |machine, counts: &mut Vec<(usize, u32, Verdict)>, &seed| {
         let mut random = Random::new(5000 + seed);
         let program = if seed % 2 == 0 {
-            let (count, size) = (8 + random.below(57), 3 + random.below(12));
+            let (count, size) = (8 + random.below(57), 3 + random.below(40));
             random::program_of(&mut random, count, size, 1)
         } else {
             joined(&mut random)
@@ -136,7 +136,9 @@ fn large_programs_at_random() {
         let verdict = second::judge(&script, 4096);
         let ways = judge::ways(&program, 4096).map(|ways| ways.len() as u32);
         assert_eq!(machine.judge(&script, 4096), verdict, "{script:?}");
-        assert_eq!(machine.number_of_ways(&script, 4096), ways, "{script:?}");
+        if verdict != Verdict::NoProgram {
+            assert_eq!(machine.number_of_ways(&script, 4096), ways, "{script:?}");
+        }
         counts.push((script.len(), ways.unwrap_or(0), verdict));
     });
     let all: Vec<_> = counts.into_iter().flatten().collect();
