@@ -1,22 +1,22 @@
 -- The arguments of a call, one after another.
 use mathlib.Core.Path.{_≡_, refl, sym, ap, ap₂, subst, _∙_}
-use mathlib.Core.List.{List, [], _∷_, _++_, append-assoc, append-nil}
+use mathlib.Core.List.{List, _++_, append-assoc, append-nil}
 use mathlib.Core.Option.{Option}
-use Prim.Native.Nat.{ℕ, zero, suc, _+_, _-_, _≤_, _<_}
+use Prim.Native.Nat.{ℕ, zero, suc, _+_, _-_, _<_}
 use native.Mathlib.Omega.{arith}
 use native.Mathlib.Nat.{add-zero, zero-add}
 use native.Mathlib.Numerals.{add-one}
-use lib.ListN.{length, drop, getD}
+use lib.ListN.{drop, getD}
 use Rattle.sizechange.specs.Graph.{Arc}
 use Rattle.graphs.specs.declared.Graph.{Graph}
 use Rattle.graphs.specs.Words.{Words}
 use Rattle.origins.specs.Origins.{from-of}
 use Rattle.lang.specs.Program.{Expr, Exprs, nil, cons, Prog, count}
-use Rattle.lang.specs.Reads.{Reads, ReadsAll, r-nil, r-cons}
+use Rattle.lang.specs.Reads.{Reads}
 use Rattle.lang.specs.Steps.{From, origin, arc, arcs}
 use Rattle.lang.proofs.Reading.{reads-all-bytes}
 use Rattle.reading.specs.Ends.{EndsFrom}
-use Rattle.callgraph.specs.Standing.{Standing, StandingAll, hop}
+use Rattle.callgraph.specs.Standing.{StandingAll, hop}
 use Rattle.callgraph.proofs.Standing.{first-of-all}
 
 -- the first i of them

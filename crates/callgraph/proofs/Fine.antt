@@ -1,10 +1,8 @@
 -- The call graph of a program is fine for tables of 64 points and 8 places.
 use mathlib.Core.List.{List}
-use Prim.Native.Nat.{ℕ, _≤_, _<_}
+use Prim.Native.Nat.{ℕ}
 use native.Mathlib.Omega.{arith}
-use lib.ListN.{length}
-use Rattle.sizechange.specs.Graph.{Step, In}
-use Rattle.sizechange.specs.Theorems.{Fine, FineStep}
+use Rattle.sizechange.specs.Theorems.{Fine}
 use Rattle.lang.specs.Program.{Prog}
 use Rattle.lang.specs.Bytes.{Program}
 use Rattle.lang.specs.Steps.{call-graph}

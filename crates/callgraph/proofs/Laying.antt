@@ -1,12 +1,11 @@
 -- Notes at one expression after another.
-use mathlib.Core.Path.{_≡_, refl, sym, ap, subst, _∙_}
-use mathlib.Core.Logic.{_⊎_, inl, inr, ⊎-elim}
+use mathlib.Core.Path.{_≡_, refl, subst, _∙_}
 use mathlib.Core.List.{List}
-use Prim.Native.Nat.{ℕ, zero, suc, _+_, _≤_, _<_}
+use Prim.Native.Nat.{ℕ, _+_, _≤_, _<_}
 use native.Mathlib.Omega.{arith}
 use borrow.Author.Count.{below-more}
-use lib.ListN.{length, getD}
-use Rattle.origins.specs.Views.{outer-at, new-at, word-at, Noted, Same-note}
+use lib.ListN.{getD}
+use Rattle.origins.specs.Views.{Noted, Same-note}
 use Rattle.callgraph.specs.Standing.{hop}
 use Rattle.callgraph.proofs.Standing.{hop-on}
 

@@ -7,9 +7,9 @@ use native.Mathlib.Omega.{arith}
 use lib.ListN.{length, drop, getD}
 use lib.Dec.{T}
 use Rattle.std.proofs.shelf.Lists.{drop-all, drop-more}
-use Rattle.sizechange.specs.Graph.{Step, nth}
+use Rattle.sizechange.specs.Graph.{Step}
 use Rattle.lang.specs.Program.{Expr, Fun, Prog, max-args, max-functions}
-use Rattle.lang.specs.Bytes.{Program, ok, all-ok}
+use Rattle.lang.specs.Bytes.{Program, all-ok}
 use Rattle.lang.specs.Reads.{Reads}
 use Rattle.lang.specs.Steps.{From, steps, given, all-steps, call-graph}
 use Rattle.lang.proofs.Reading.{body-ok, fine-parts}

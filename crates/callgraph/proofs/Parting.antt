@@ -1,11 +1,10 @@
 -- From an expression that is visited to its parts that wait.
-use mathlib.Core.Path.{_≡_, refl, sym, ap, ap₂, subst, _∙_}
+use mathlib.Core.Path.{_≡_, refl, sym, ap, subst, _∙_}
 use mathlib.Core.Bool.{_&&_}
-use mathlib.Core.List.{List, [], _∷_, _++_, append-assoc}
-use mathlib.Core.Option.{Option, some}
+use mathlib.Core.List.{List, _∷_, _++_, append-assoc}
+use mathlib.Core.Option.{Option}
 use Prim.Native.Nat.{ℕ, zero, suc, _+_, _-_, _≤_, _<_}
 use native.Mathlib.Omega.{arith}
-use native.Mathlib.Nat.{add-zero}
 use lib.ListN.{length, drop, getD, length-drop}
 use lib.Dec.{T, ltb, ltb→lt}
 use Rattle.std.specs.declared.option.Option.the-variants.{Some}
@@ -26,7 +25,7 @@ use Rattle.origins.specs.Origins.{from-of, in-view}
 use Rattle.origins.specs.Views.{Noted, Same-note, newer}
 use Rattle.callgraph.specs.Standing.{Standing, StandingAll, Stands, StandAll, hop}
 use Rattle.callgraph.specs.Pending.{inner, Pending, Parts-wait}
-use Rattle.callgraph.proofs.Standing.{Ended, ended, first-of-all}
+use Rattle.callgraph.proofs.Standing.{ended, first-of-all}
 use Rattle.callgraph.proofs.Waiting.{pending-same, pending-more}
 
 -- two expressions, the second with n variables more in view

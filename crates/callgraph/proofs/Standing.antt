@@ -1,24 +1,23 @@
 -- From an expression at a place to its parts.
 use mathlib.Core.Path.{_≡_, refl, sym, ap, subst, _∙_}
-use mathlib.Core.Bool.{Bool, _&&_}
-use mathlib.Core.List.{List, [], _∷_, _++_}
+use mathlib.Core.List.{List}
 use mathlib.Core.Option.{Option, none}
 use Prim.Native.Nat.{ℕ, zero, suc, _+_, _-_, _≤_, _<_}
 use native.Mathlib.Omega.{arith}
 use native.Mathlib.Numerals.{add-one}
 use lib.ListN.{length, drop, getD}
 use lib.Dec.{T, ltb→lt}
-use Rattle.std.specs.declared.option.Option.the-variants.{Some, None}
-use Rattle.lang.specs.Program.{Expr, var, a-leaf, a-node, parts, bind, call, Exprs, nil, cons, Prog, max-args, count}
+use Rattle.std.specs.declared.option.Option.the-variants.{Some}
+use Rattle.lang.specs.Program.{Expr, var, parts, Exprs, cons, Prog}
 use Rattle.lang.specs.Bytes.{ok, oks}
-use Rattle.lang.specs.Reads.{Reads, ReadsAll, r-var, r-leaf, r-node, r-parts, r-bind, r-call, r-nil, r-cons}
-use Rattle.lang.specs.Steps.{From, known, origin}
+use Rattle.lang.specs.Reads.{Reads, ReadsAll, r-cons}
+use Rattle.lang.specs.Steps.{From, origin}
 use Rattle.lang.proofs.Lists.{both}
 use Rattle.lang.proofs.Reading.{reads-one}
 use Rattle.reading.specs.declared.head.Head.{Head}
-use Rattle.reading.specs.declared.head.Head.the-variants.{Var, Leaf, Node, Parts, Bind, Call}
-use Rattle.reading.specs.Heads.{HeadAt, widthOf}
-use Rattle.reading.specs.Ends.{EndsFrom, EndWord, EndOf}
+use Rattle.reading.specs.declared.head.Head.the-variants.{Var}
+use Rattle.reading.specs.Heads.{HeadAt}
+use Rattle.reading.specs.Ends.{EndsFrom, EndWord}
 use Rattle.reading.proofs.Heading.{Goes, g-var, g-leaf, g-node, g-parts, g-bind, g-call, goes-at, starting}
 use Rattle.callgraph.specs.Standing.{ReadsAt, Standing, StandingAll, Stands, StandAll, hop}
 

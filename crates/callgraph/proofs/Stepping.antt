@@ -1,6 +1,6 @@
 -- One step more in the rows.
 use mathlib.Core.Path.{_≡_, refl, sym, ap, subst, _∙_}
-use mathlib.Core.Logic.{_⊎_, inl, inr, ⊎-elim}
+use mathlib.Core.Logic.{_⊎_, ⊎-elim}
 use mathlib.Core.List.{List, [], _∷_, _++_, append-nil}
 use mathlib.Core.Option as opt
 use Prim.Native.Nat.{ℕ, zero, suc, _+_, _≤_, _<_}
@@ -8,9 +8,9 @@ use native.Mathlib.Omega.{arith}
 use lib.ListN.{length, length-append}
 use lib.Dec.{T}
 use Rattle.std.specs.declared.option.Option.{Option}
-use Rattle.std.specs.declared.option.Option.the-variants.{Some, None}
+use Rattle.std.specs.declared.option.Option.the-variants.{Some}
 use Rattle.sizechange.specs.Graph.{Step, nth}
-use Rattle.lang.specs.Program.{Expr, call, Exprs, Fun, Prog, count, max-functions}
+use Rattle.lang.specs.Program.{Expr, call, Exprs, Fun, Prog, count}
 use Rattle.lang.specs.Bytes.{ok, oks, takes}
 use Rattle.lang.specs.Steps.{From, arcs}
 use Rattle.lang.proofs.Lists.{both}

@@ -1,18 +1,17 @@
 -- Expressions that wait, while notes and words change elsewhere.
-use mathlib.Core.Path.{_≡_, refl, sym, ap, ap₂, subst, _∙_}
-use mathlib.Core.List.{List, [], _∷_, _++_, append-assoc}
+use mathlib.Core.Path.{_≡_, refl, sym, subst}
+use mathlib.Core.List.{List, [], _++_}
 use mathlib.Core.Option.{Option}
-use Prim.Native.Nat.{ℕ, zero, suc, _+_, _-_, _≤_, _<_}
+use Prim.Native.Nat.{ℕ, _+_, _-_, _≤_, _<_}
 use native.Mathlib.Omega.{arith}
-use native.Mathlib.Nat.{add-zero}
-use lib.ListN.{length, drop, getD}
+use lib.ListN.{getD}
 use Rattle.sizechange.specs.Graph.{Step}
-use Rattle.lang.specs.Program.{Expr, var, a-leaf, a-node, parts, bind, call, Exprs, nil, cons, Prog}
-use Rattle.lang.specs.Steps.{From, steps, steps-all}
+use Rattle.lang.specs.Program.{Expr, var, a-leaf, a-node, parts, bind, call, Prog}
+use Rattle.lang.specs.Steps.{From, steps}
 use Rattle.origins.specs.Origins.{from-of, in-view}
-use Rattle.origins.specs.Views.{outer-at, new-at, word-at, Noted, Same-note, newer, seen}
+use Rattle.origins.specs.Views.{outer-at, new-at, Noted, Same-note, newer, seen}
 use Rattle.origins.proofs.Origins.{view-same}
-use Rattle.callgraph.specs.Standing.{Standing, StandingAll, hop}
+use Rattle.callgraph.specs.Standing.{Standing}
 use Rattle.callgraph.specs.Pending.{own, inner, Waits, Pending, p-none, p-more}
 
 seen-same : (known known₁ views views₁ : List ℕ) (j b : ℕ) → outer-at views j ≤ b → Same-note views views₁ j → ((i : ℕ) → i < b → getD known₁ i 0 ≡ getD known i 0) → seen known₁ views₁ j ≡ seen known views j

@@ -1,6 +1,6 @@
 -- One turn of the walk over a body.
 use mathlib.Core.Path.{_≡_, refl, sym, ap, subst, _∙_}
-use mathlib.Core.List.{List, [], _∷_, _++_, append-assoc, append-nil}
+use mathlib.Core.List.{List, [], _++_, append-assoc, append-nil}
 use mathlib.Core.Option as opt
 use Prim.Native.Nat.{ℕ, _+_, _*_, _≤_, _<_}
 use native.Mathlib.Omega.{arith}
@@ -8,14 +8,14 @@ use lib.ListN.{length, getD}
 use Rattle.std.specs.declared.option.Option.{Option}
 use Rattle.sizechange.specs.Graph.{Step}
 use Rattle.table.specs.declared.Edge.{Edge}
-use Rattle.lang.specs.Program.{Expr, Prog, max-functions}
+use Rattle.lang.specs.Program.{Expr, Prog}
 use Rattle.lang.specs.Steps.{From, steps}
 use Rattle.origins.specs.Origins.{from-of, in-view}
-use Rattle.origins.specs.Views.{outer-at, new-at, word-at, Noted, newer, seen}
+use Rattle.origins.specs.Views.{outer-at, new-at, Noted, newer, seen}
 use Rattle.callgraph.specs.Standing.{ReadsAt, Standing, Stands}
-use Rattle.callgraph.specs.Pending.{own, inner, Waits, Pending, Parts-wait, Walk}
+use Rattle.callgraph.specs.Pending.{own, inner, Pending, Parts-wait, Walk}
 use Rattle.callgraph.specs.StepRows.{OneStep, StepRows}
-use Rattle.callgraph.proofs.Waiting.{Next, pending-next, pending-done, pending-before, pending-same, pending-under, own-inner}
+use Rattle.callgraph.proofs.Waiting.{pending-next, pending-done, pending-before, pending-same, pending-under, own-inner}
 
 -- some of the steps are in the rows, and the expressions of the others wait
 pub record Going (p : Prog) (s rows₀ : List ℕ) (m₀ : ℕ) (views known rows : List ℕ) (f end at m : ℕ) (ss : List Step) : Type 0 where

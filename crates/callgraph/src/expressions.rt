@@ -1,4 +1,4 @@
-ghost use Prim.Native.Nat.{ℕ, _+_, _<_, _≤_};
+ghost use Prim.Native.Nat.{ℕ, _<_, _≤_};
 ghost use Rattle.callgraph.specs.Standing.{ReadsAt, StandAll, StandingAll, Stands};
 ghost use Rattle.graphs.specs.Words.{Words};
 ghost use Rattle.lang.specs.Program.{Expr, Exprs, Prog, max-args};
@@ -48,7 +48,7 @@ pub fn origin_of(bytes: &[u8], known: &[u32], vars: u32, at: usize) -> Origin
 {
     match head_of(bytes, at) {
         Head::Var(i) => origin_at(known, vars, i as u32),
-        _ => Origin(0),
+        _ => Origin::UNKNOWN,
     }
 }
 

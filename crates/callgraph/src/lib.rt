@@ -1,5 +1,5 @@
 //! The call graph of a script: each call as a step from function to function, with its size-change graph, in rows of words.
-ghost use Prim.Native.Nat.{ℕ, _*_, _≤_};
+ghost use Prim.Native.Nat.{_*_, _≤_};
 ghost use Rattle.callgraph.specs.Standing.{Room};
 ghost use Rattle.callgraph.specs.StepRows.{StepRows, most-steps};
 ghost use Rattle.table.specs.Rows.{width};
@@ -15,8 +15,8 @@ mod steps;
 
 use body::visit_body;
 use expressions::end_of;
-use notes::plain;
 use origins::origin::give;
+use origins::view::View;
 use origins::view::note;
 
 /// Writes the steps of a program as rows, in the order of its bytes; gives how many there are.
@@ -41,7 +41,7 @@ pub fn list_steps(
         let args = bytes[at] as u32;
         let body = at + 1;
         give(known, args);
-        note(views, body, plain(args));
+        note(views, body, View::plain(args));
         m = visit_body(bytes, ends, known, views, rows, caller, body, m);
         at = end_of(bytes, ends, body);
         caller += 1;

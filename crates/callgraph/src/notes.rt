@@ -7,41 +7,25 @@ ghost use Rattle.reading.specs.Ends.{EndsFrom};
 ghost use Rattle.reading.specs.Heads.{HeadAt, widthOf};
 ghost use Rattle.std.specs.declared.option.Option.the-variants.{Some};
 ghost use lib.ListN.{getD, length};
-ghost use mathlib.Core.Path.{_≡_};
 use super::expressions::end_of;
 use super::expressions::origin_of;
-use origins::origin::Origin;
 use origins::origin::origin_at;
 use origins::view::View;
 use origins::view::note;
 use reading::head::Head;
 
-/// What an expression sees that brings no variable into view.
-pub fn plain(vars: u32) -> View
-    ensures outer { λ r. ⌜ r .outer ≡ vars ⌝ }
-    ensures new { λ r. ⌜ r .new ≡ 0 ⌝ }
-    ensures origin { λ r. ⌜ r .origin .0 ≡ 0 ⌝ }
-{
-    View {
-        outer: vars,
-        new: 0,
-        origin: Origin(0),
-    }
-}
-
-/// Notes that the first of two expressions sees the variables in view, and what the second sees.
-pub fn note_two(ends: &[u32], views: &mut [u32], at: usize, vars: u32, second: View)
+/// Notes what the second of two expressions sees, and that the first sees the variables around that.
+pub fn note_two(ends: &[u32], views: &mut [u32], at: usize, second: View)
     requires there { ⌜ at < length (now ends) ⌝ }
     requires forward { ⌜ at < getD (now ends) at 0 ⌝ }
     requires room { ⌜ 2 * getD (now ends) at 0 + 2 ≤ length (now views) ⌝ }
-    requires fits { ⌜ vars < 2 ^ 29 ⌝ }
+    requires fits { ⌜ second .outer < 2 ^ 29 ⌝ }
     requires few { ⌜ second .new ≤ 2 ⌝ }
-    requires second { ⌜ second .outer ≡ vars ⌝ }
-    ensures first { λ _. ⌜ Noted (now (views .exit)) at vars 0 0 ⌝ }
-    ensures next { λ _. ⌜ Noted (now (views .exit)) (getD (now (ends .entry)) at 0) vars (second .new) (second .origin .0) ⌝ }
+    ensures first { λ _. ⌜ Noted (now (views .exit)) at (second .outer) 0 0 ⌝ }
+    ensures next { λ _. ⌜ Noted (now (views .exit)) (getD (now (ends .entry)) at 0) (second .outer) (second .new) (second .origin .0) ⌝ }
     ensures others { λ _. ⌜ ((j : ℕ) → getD (now (ends .entry)) at 0 < j → Same-note (now (views .entry)) (now (views .exit)) j) ⌝ }
 {
-    note(views, at, plain(vars));
+    note(views, at, View::plain(second.outer));
     note(views, ends[at] as usize, second);
 }
 
@@ -58,7 +42,7 @@ pub fn note_all(bytes: &[u8], ends: &[u32], views: &mut [u32], at: usize, n: u8,
     let mut start = at;
     for _i in 0..n {
         let end = end_of(bytes, ends, start);
-        note(views, start, plain(vars));
+        note(views, start, View::plain(vars));
         start = end;
     }
 }
@@ -82,34 +66,22 @@ pub fn note_parts(
     let inside = at + head.width();
     match head {
         Head::Var(_) | Head::Leaf => {}
-        Head::Node => note_two(ends, views, inside, vars, plain(vars)),
+        Head::Node => note_two(ends, views, inside, View::plain(vars)),
         Head::Parts(i) => {
-            let origin = origin_at(known, vars, i as u32).part();
-            note_two(
-                ends,
-                views,
-                inside,
-                vars,
-                View {
-                    outer: vars,
-                    new: 2,
-                    origin,
-                },
-            );
+            let second = View {
+                outer: vars,
+                new: 2,
+                origin: origin_at(known, vars, i as u32).part(),
+            };
+            note_two(ends, views, inside, second);
         }
         Head::Bind => {
-            let origin = origin_of(bytes, known, vars, inside);
-            note_two(
-                ends,
-                views,
-                inside,
-                vars,
-                View {
-                    outer: vars,
-                    new: 1,
-                    origin,
-                },
-            );
+            let second = View {
+                outer: vars,
+                new: 1,
+                origin: origin_of(bytes, known, vars, inside),
+            };
+            note_two(ends, views, inside, second);
         }
         Head::Call(_, n) => note_all(bytes, ends, views, inside, n, vars),
     }

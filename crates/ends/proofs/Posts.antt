@@ -26,10 +26,10 @@ few-post s n w b h e = record { says = tt; theorems = theorems; few = ((λ _. re
 pub post : (s : List ℕ) (n w : ℕ) (b : Bool) (r : Judged) → (r ≡ Few → ⊥) → (w < floor s n) ↔ (b ≡ true) → b ≡ false → JudgedSays s n r → JudgedPost s n w r
 post s n w b r o h e says = record { says = says; theorems = theorems; few = ((λ l. absurd (both-ways b e (h .0 l))), (λ z. absurd (o z))) }
 
-pub says-ends : (s ends starts : List ℕ) (n k : ℕ) → (p : Prog) × Judgeable s ends starts n p k × Ends-for-a-reason p → JudgedSays s n Ends
-says-ends s ends starts n k h = let j = h .1 in let e = j .number in let f = j .few in (h .0, j .list, j .tables .program, j .ways, omega arith, h .2)
-pub says-none : (s ends starts : List ℕ) (n k : ℕ) → (p : Prog) × Judgeable s ends starts n p k × (Ends-for-a-reason p → ⊥) → JudgedSays s n NoReason
-says-none s ends starts n k h = let j = h .1 in let e = j .number in let f = j .few in (h .0, j .list, j .tables .program, j .ways, omega arith, h .2)
+pub says-ends : (s ends starts : List ℕ) (n f k : ℕ) → (p : Prog) × Judgeable s ends starts n p f k × Ends-for-a-reason p → JudgedSays s n Ends
+says-ends s ends starts n f k h = let j = h .1 in let e = j .number in let l = j .few in (h .0, j .list, j .tables .program, j .ways, omega arith, h .2)
+pub says-none : (s ends starts : List ℕ) (n f k : ℕ) → (p : Prog) × Judgeable s ends starts n p f k × (Ends-for-a-reason p → ⊥) → JudgedSays s n NoReason
+says-none s ends starts n f k h = let j = h .1 in let e = j .number in let l = j .few in (h .0, j .list, j .tables .program, j .ways, omega arith, h .2)
 
 pub ends-not-few : Ends ≡ Few → ⊥
 ends-not-few e = let z : _≡_ {A = ℕ} 0 1 = cc in omega arith

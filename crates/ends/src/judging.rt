@@ -17,8 +17,8 @@ pub fn judge(program: &[u8], ways: u32, work: &mut [u32]) -> Judged
     let (ends, rest) = work.split_at_mut(program.len());
     let (starts, rest) = rest.split_at_mut(STARTS);
     match find_verdict(program, ways, ends, starts, rest) {
-        Verdict::Ends(_) => Judged::Ends,
-        Verdict::NoReason(_) => Judged::NoReason,
+        Verdict::Ends(_, _) => Judged::Ends,
+        Verdict::NoReason(_, _) => Judged::NoReason,
         Verdict::NoProgram => Judged::NoProgram,
         Verdict::Many => Judged::Many,
     }

@@ -1,8 +1,10 @@
 // The two public calls, and what they answer.
 mod floors;
+mod going;
 mod judging;
 pub use floors::pegsienna_go_words;
 pub use floors::pegsienna_judge_words;
+pub use going::go;
 pub use judging::judge;
 
 // What is said of a program.
@@ -13,4 +15,16 @@ pub enum Judged {
     NoProgram,
     Many,
     Few,
+}
+
+// How a call came out: a tree of so many bytes and the room left, or why there is none.
+#[derive(Clone, Copy, Debug, PartialEq)]
+pub enum Ran {
+    Value(usize, u32),
+    Full,
+    Deep,
+    Unproved,
+    BadCall,
+    OutFull,
+    Small,
 }

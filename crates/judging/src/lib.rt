@@ -16,12 +16,20 @@ use closure::all_ways;
 use closure::first_without_reason;
 use reading::program::read_program;
 
-// What is found out about a script; with the first two, how many ways it has.
+// What is found out about a script; with the first two, how many functions and how many ways it has.
 #[derive(Clone, Copy)]
 pub enum Verdict {
+    Ends(usize, usize),
+    NoReason(usize, usize),
+    NoProgram,
+    Many,
+}
+
+// What is found out about a call graph; with the first two, how many ways it has.
+#[derive(Clone, Copy)]
+enum GraphVerdict {
     Ends(usize),
     NoReason(usize),
-    NoProgram,
     Many,
 }
 
@@ -29,7 +37,7 @@ pub enum Verdict {
 const MOST_HEADS: usize = 0x100_0000;
 
 // Finds all ways along the steps of a table, and whether each that can be repeated makes something smaller.
-fn close(steps: &[u32], n: usize, limit: u32, work: &mut [u32]) -> Verdict
+fn close(steps: &[u32], n: usize, limit: u32, work: &mut [u32]) -> GraphVerdict
     requires steps { ⌜ 8 * n ≤ length (now steps) ⌝ }
     requires few { ⌜ n ≤ 4096 ⌝ }
     requires room { ⌜ 8192 + 16 * limit ≤ length (now work) ⌝ }
@@ -41,15 +49,15 @@ fn close(steps: &[u32], n: usize, limit: u32, work: &mut [u32]) -> Verdict
     let (scratch, _) = rest.split_at_mut(64 + n + heads);
     match all_ways(steps, n, limit, ways, scratch) {
         Closure::All(count) => match first_without_reason(ways, count) {
-            None => Verdict::Ends(count),
-            Some(_) => Verdict::NoReason(count),
+            None => GraphVerdict::Ends(count),
+            Some(_) => GraphVerdict::NoReason(count),
         },
-        Closure::Many => Verdict::Many,
+        Closure::Many => GraphVerdict::Many,
     }
 }
 
 // Judges a program by its call graph.
-fn search(program: &[u8], limit: u32, ends: &[u32], work: &mut [u32]) -> Verdict
+fn search(program: &[u8], limit: u32, ends: &[u32], work: &mut [u32]) -> GraphVerdict
     requires program { ⌜ ((p : Prog) × Program (now program) p) ⌝ }
     requires few { ⌜ length (now program) ≤ 4096 ⌝ }
     requires table { ⌜ length (now program) ≤ length (now ends) ⌝ }
@@ -74,7 +82,11 @@ pub fn find_verdict(program: &[u8], ways: u32, ends: &mut [u32], starts: &mut [u
 {
     let (needs, rest) = work.split_at_mut(program.len());
     match read_program(program, ends, starts, needs) {
-        Some(_) => search(program, ways, ends, rest),
+        Some(functions) => match search(program, ways, ends, rest) {
+            GraphVerdict::Ends(ways) => Verdict::Ends(functions, ways),
+            GraphVerdict::NoReason(ways) => Verdict::NoReason(functions, ways),
+            GraphVerdict::Many => Verdict::Many,
+        },
         None => Verdict::NoProgram,
     }
 }

@@ -1,10 +1,10 @@
-ghost use Prim.Native.Nat.{ℕ, _+_, _*_, _/_, _%_, _<_, _≤_};
+ghost use Prim.Native.Nat.{_+_, _*_, _/_, _%_, _<_, _≤_};
 ghost use Rattle.graphs.specs.Words.{Words, places};
 ghost use Rattle.lang.specs.Program.{max-args};
 ghost use Rattle.lang.specs.Steps.{arc, given, known as of-variable, part};
 ghost use Rattle.origins.specs.Origins.{from-of, in-view};
 ghost use Rattle.sizechange.specs.Graph.{Arc};
-ghost use lib.ListN.{getD, length};
+ghost use lib.ListN.{length};
 ghost use mathlib.Core.List.{List, _++_};
 ghost use mathlib.Core.Path.{_≡_};
 use graphs::Graph;
@@ -15,6 +15,8 @@ use graphs::PLACES;
 pub struct Origin(pub u32);
 
 impl Origin {
+    pub const UNKNOWN: Origin = Origin(0);
+
     /// Of the parts of what has this origin.
     pub fn part(self) -> Origin
         ensures { λ r. ⌜ from-of (r .0) ≡ part (from-of (self .0)) ⌝ }

@@ -1,6 +1,6 @@
 ghost use Prim.Native.Nat.{ℕ, _+_, _*_, _^_, _<_, _≤_};
 ghost use Rattle.origins.specs.Origins.{from-of, in-view};
-ghost use Rattle.origins.specs.Views.{Noted, Same-note, new-at, newer, outer-at, word-at};
+ghost use Rattle.origins.specs.Views.{Noted, Same-note, newer};
 ghost use lib.ListN.{getD, length};
 ghost use mathlib.Core.Path.{_≡_};
 use super::origin::Origin;
@@ -11,6 +11,21 @@ pub struct View {
     pub outer: u32,
     pub new: u32,
     pub origin: Origin,
+}
+
+impl View {
+    /// No new variables.
+    pub fn plain(vars: u32) -> View
+        ensures outer { λ r. ⌜ r .outer ≡ vars ⌝ }
+        ensures new { λ r. ⌜ r .new ≡ 0 ⌝ }
+        ensures origin { λ r. ⌜ r .origin .0 ≡ 0 ⌝ }
+    {
+        View {
+            outer: vars,
+            new: 0,
+            origin: Origin::UNKNOWN,
+        }
+    }
 }
 
 /// Words of a note.

@@ -10,9 +10,18 @@ use tasks::text::Text;
 use tasks::words::DEEP;
 use tasks::words::GOING;
 use tasks::words::Given;
+use tasks::words::MAX_ARGS;
 
 // Works out the expression at a place, inside or last in its body, with the variables of the frame from `base` to `top`; `depth` further calls may be opened inside. What stands last, a call too, is done in its place.
-pub fn value(text: &Text<'_>, store: &mut Store<'_>, mut at: usize, mut base: usize, mut top: usize, mut depth: usize, mut inside: bool) -> u32
+pub fn value(
+    text: &Text<'_>,
+    store: &mut Store<'_>,
+    mut at: usize,
+    mut base: usize,
+    mut top: usize,
+    mut depth: usize,
+    mut inside: bool,
+) -> u32
     requires ready { ⌜ Ready (now store) base top ⌝ }
     requires wide { ⌜ Wide (now (now text .bytes)) (length (now (now store .frames))) at base top depth ⌝ }
     requires stands { ⌜ Stands (now (now text .bytes)) (task (now store) at base top depth inside) ⌝ }
@@ -25,12 +34,12 @@ pub fn value(text: &Text<'_>, store: &mut Store<'_>, mut at: usize, mut base: us
             Head::Var(i) => return store.variable(top, i),
             Head::Leaf => return 0,
             Head::Node => {
-                let left = value(text, store, at + 1, base, top, depth, true);
+                let left = operand(text, store, at + 1, base, top, depth);
                 if store.stop != GOING {
                     return 0;
                 }
                 let next = text.end(at + 1);
-                let right = value(text, store, next, base, top, depth, true);
+                let right = operand(text, store, next, base, top, depth);
                 if store.stop != GOING {
                     return 0;
                 }
@@ -48,7 +57,7 @@ pub fn value(text: &Text<'_>, store: &mut Store<'_>, mut at: usize, mut base: us
                 continue 'body;
             }
             Head::Bind => {
-                let bound = value(text, store, at + 1, base, top, depth, true);
+                let bound = operand(text, store, at + 1, base, top, depth);
                 if store.stop != GOING {
                     return 0;
                 }
@@ -80,8 +89,39 @@ pub fn value(text: &Text<'_>, store: &mut Store<'_>, mut at: usize, mut base: us
     }
 }
 
-// Works out the arguments of a call, the first of which stands at a place.
-fn arguments(text: &Text<'_>, store: &mut Store<'_>, mut at: usize, base: usize, top: usize, depth: usize, n: u8) -> Given
+// Works out the expression at a place inside another; a variable and a leaf are read where they stand.
+fn operand(
+    text: &Text<'_>,
+    store: &mut Store<'_>,
+    at: usize,
+    base: usize,
+    top: usize,
+    depth: usize,
+) -> u32
+    requires ready { ⌜ Ready (now store) base top ⌝ }
+    requires wide { ⌜ Wide (now (now text .bytes)) (length (now (now store .frames))) at base top depth ⌝ }
+    requires stands { ⌜ Stands (now (now text .bytes)) (task (now store) at base top depth true) ⌝ }
+    ensures moved { λ _. ⌜ Moved top (now (store .entry)) (now (store .exit)) ⌝ }
+    ensures there { λ r. ⌜ r ≤ now (store .exit) .used ⌝ }
+    ensures says { λ r. ⌜ Says (now (now (text .entry) .bytes)) (task (now (store .entry)) at base top depth true) (comes-to (now (store .exit)) r) ⌝ }
+{
+    match text.head(at) {
+        Head::Var(i) => store.variable(top, i),
+        Head::Leaf => 0,
+        _ => value(text, store, at, base, top, depth, true),
+    }
+}
+
+// Works out the arguments of a call, the first of which stands at a place. The loop is as long as a call can have arguments, so that it is unrolled and the numbers stay in registers.
+fn arguments(
+    text: &Text<'_>,
+    store: &mut Store<'_>,
+    mut at: usize,
+    base: usize,
+    top: usize,
+    depth: usize,
+    n: u8,
+) -> Given
     requires few { ⌜ n ≤ 8 ⌝ }
     requires ready { ⌜ Ready (now store) base top ⌝ }
     requires wide { ⌜ Wide (now (now text .bytes)) (length (now (now store .frames))) at base top depth ⌝ }
@@ -90,16 +130,17 @@ fn arguments(text: &Text<'_>, store: &mut Store<'_>, mut at: usize, base: usize,
     ensures there { λ r. ⌜ ((i : ℕ) → getD (r .0) i 0 ≤ now (store .exit) .used) ⌝ }
     ensures say { λ r. ⌜ Says (now (now (text .entry) .bytes)) (tasks (now (store .entry)) at base top depth n) (come-to (now (store .exit)) (r .0) n) ⌝ }
 {
-    let mut given = Given([0; 8]);
-    let mut j = 0;
-    while j < n {
-        let v = value(text, store, at, base, top, depth, true);
-        given.0[j as usize] = v;
+    let mut given = Given([0; MAX_ARGS]);
+    for j in 0..MAX_ARGS {
+        if j == n as usize {
+            return given;
+        }
+        let v = operand(text, store, at, base, top, depth);
+        given.0[j] = v;
         if store.stop != GOING {
             return given;
         }
         at = text.end(at);
-        j += 1;
     }
     given
 }

@@ -69,6 +69,7 @@ come-none : (k : ℕ) (ts : List Tree) (r : ℕ) (t : Tree) (q : ℕ) → k ≢ 
 come-none zero ts r t q n = absurd (n refl)
 come-none (suc zero) ts r t q n = refl
 come-none (suc (suc k)) ts r t q n = refl
+
 bad-stop : (k : ℕ) (t : Tree) (r : ℕ) → k ≢ 0 → Bad (outcome k t r)
 bad-stop zero t r n = absurd (n refl)
 bad-stop (suc zero) t r n = is-full
@@ -120,6 +121,7 @@ pub zeros : (n used i : ℕ) → getD (replicate n 0) i 0 ≤ used
 zeros zero used i = omega arith
 zeros (suc n) used zero = omega arith
 zeros (suc n) used (suc i) = zeros n used i
+
 pub old-set : (vs : List ℕ) (j v used used′ : ℕ) → j < length vs → used ≤ used′ → v ≤ used′ → ((i : ℕ) → getD vs i 0 ≤ used) → (i : ℕ) → getD (set vs j v) i 0 ≤ used′
 old-set vs j v used used′ l g new old i =
     ⊎-elim
@@ -145,7 +147,10 @@ moved-same floor st base top r = record { limit = refl; grown = grown-same (st .
 module _ (s : List ℕ) (st0 : Store) (at0 base top depth n : ℕ) where
   pub worked-none : (vs : List ℕ) → Ready st0 base top → length vs ≡ 8 → ((i : ℕ) → getD vs i 0 ≤ st0 .used) → Worked s st0 at0 base top depth n st0 at0 0 vs
   worked-none vs r long old = record {
-    ready = r; moved = moved-same top st0 base top r; long = long; old = old;
+    ready = r;
+    moved = moved-same top st0 base top r;
+    long = long;
+    old = old;
     leads = let e : n ≡ n - 0 = omega arith in
         subst (λ (k : ℕ). Leads s 0 (tasks st0 at0 base top depth k) (tasks st0 at0 base top depth n) (prepend [])) e
         (leads-as s 0 at0 n depth (frame st0 base top) (room st0) at0 n depth (frame st0 base top) (room st0) (λ o. o) (prepend []) prepend-none (leads-same s (tasks st0 at0 base top depth n)));
@@ -182,10 +187,10 @@ module _ (s : List ℕ) (st0 : Store) (at0 base top depth n : ℕ) where
             let t1 = tree (st1 .nodes .now) in
             let ts = map (tree (st .nodes .now)) (take j vs) in
             let rest : Leads s 1 (list k (n - (j + 1)) depth (frame st base top) (room st1)) (tasks st at base top depth (n - j)) (prepend (t1 v ∷ [])) =
-                subst (λ (i : ℕ). Leads s 1 (list k (n - (j + 1)) depth (frame st base top) (room st1)) (tasks st at base top depth i) (prepend (t1 v ∷ []))) (sym one-more)
-                (list-rest s at depth (frame st base top) (room st) (n - (j + 1)) k (room st1) (t1 v) z (subst (λ (o : Outcome). Says s (task st at base top depth true) o) (value-is st1 v going) says)) in
+            subst (λ (i : ℕ). Leads s 1 (list k (n - (j + 1)) depth (frame st base top) (room st1)) (tasks st at base top depth i) (prepend (t1 v ∷ []))) (sym one-more)
+            (list-rest s at depth (frame st base top) (room st) (n - (j + 1)) k (room st1) (t1 v) z (subst (λ (o : Outcome). Says s (task st at base top depth true) o) (value-is st1 v going) says)) in
             let are : map t1 (take (j + 1) (set vs j v)) ≡ ts ++ (t1 v ∷ []) =
-                ap (map t1) (take-more-set vs j v (omega arith)) ∙ map-append t1 (take j vs) (v ∷ []) ∙ ap (λ xs. xs ++ (t1 v ∷ [])) (map-kept (st .nodes .now) (st1 .nodes .now) (st .used) vs (m .grown .kept) (w .old) j) in
+            ap (map t1) (take-more-set vs j v (omega arith)) ∙ map-append t1 (take j vs) (v ∷ []) ∙ ap (λ xs. xs ++ (t1 v ∷ [])) (map-kept (st .nodes .now) (st1 .nodes .now) (st .used) vs (m .grown .kept) (w .old) j) in
             record {
               ready = still st st1 base top (w .ready) m going;
               moved = moved-then top top st0 st st1 (w .moved) m (omega arith);

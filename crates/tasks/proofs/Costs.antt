@@ -44,6 +44,7 @@ module _ (s ends starts : List ℕ) (E : Ending s ends starts) where
       word : (w : ℕ) → EndWord s at w → ((e : Expr) × (k : ℕ) × Reads (drop at s) e (drop k s)) ⊎ ((e : Expr) (x : List ℕ) → Reads (drop at s) e x → ⊥)
       word zero h = inr (h .none refl)
       word (suc w) h = let q = h .some (omega arith) in inl (q .2, suc w, q .3)
+
       go : Dec (at < length s) → ((e : Expr) × (k : ℕ) × Reads (drop at s) e (drop k s)) ⊎ ((e : Expr) (x : List ℕ) → Reads (drop at s) e x → ⊥)
       go (yes l) = word (getD ends at 0) (E .tables .ending at (omega arith) l)
       go (no l) = inr (λ e x r. let h = starting s at r .one in l (omega arith))
@@ -55,6 +56,7 @@ module _ (s ends starts : List ℕ) (E : Ending s ends starts) where
       rest : (e : Expr) (k : ℕ) → Reads (drop at s) e (drop k s) → ((es : Exprs) × (l : ℕ) × ReadsAll n (drop k s) es (drop l s)) ⊎ ((es : Exprs) (x : List ℕ) → ReadsAll n (drop k s) es x → ⊥) → ((es : Exprs) × (k : ℕ) × ReadsAll (suc n) (drop at s) es (drop k s)) ⊎ ((es : Exprs) (x : List ℕ) → ReadsAll (suc n) (drop at s) es x → ⊥)
       rest e k r (inl q) = inl (cons e (q .0), q .1, r-cons r (q .2))
       rest e k r (inr none) = inr (λ es x h. let f = first-of h in none (f .1) x (subst (λ (ys : List ℕ). ReadsAll n ys (f .1) x) (reads-one (f .3) r .1) (f .4)))
+
       first : ((e : Expr) × (k : ℕ) × Reads (drop at s) e (drop k s)) ⊎ ((e : Expr) (x : List ℕ) → Reads (drop at s) e x → ⊥) → ((k : ℕ) → ((es : Exprs) × (l : ℕ) × ReadsAll n (drop k s) es (drop l s)) ⊎ ((es : Exprs) (x : List ℕ) → ReadsAll n (drop k s) es x → ⊥)) → ((es : Exprs) × (k : ℕ) × ReadsAll (suc n) (drop at s) es (drop k s)) ⊎ ((es : Exprs) (x : List ℕ) → ReadsAll (suc n) (drop at s) es x → ⊥)
       first (inl q) more = rest (q .0) (q .1) (q .2) (more (q .1))
       first (inr none) more = inr (λ es x h. let f = first-of h in none (f .0) (f .2) (f .3))
@@ -98,20 +100,28 @@ has-cost s ends starts E t = go (read? s ends starts E (t .kind) (t .at))
   where
     q : Program s (E .prog)
     q = E .tables .program
+
     none : ((e : Syntax (t .kind)) → Here s (E .prog) t e → ⊥) → (n : ℕ) × Cost s t n
     none no-one = (0, record { each = λ p e w h o x. absurd (no-one e (subst (λ (r : Prog). Here s r t e) (one-program s p (E .prog) w q) h)); some = inl refl })
+
     it : (e : Syntax (t .kind)) (x : List ℕ) → Read (t .kind) (drop (t .at) s) e x → Fine (t .kind) (E .prog) (length (t .env)) e → (n : ℕ) × Cost s t n
     it e x r f =
         let h : Here s (E .prog) t e = record { rest = x; reads = r; fine = f } in
         let o = all-comes s (E .prog) q (E .why) (t .kind) (t .depth) (t .env) e (t .room) f in
-        let n = steps (E .prog) t e (o .0) (o .1) in
-        (n, record { each = λ p d w k. subst (λ (r : Prog). (d : Syntax (t .kind)) → Here s r t d → (u : Result (t .kind)) (y : Does r t d u) → steps r t d u y ≡ n) (one-program s (E .prog) p q w)
-            (λ d k. subst (λ (d : Syntax (t .kind)). (u : Result (t .kind)) (y : Does (E .prog) t d u) → steps (E .prog) t d u y ≡ n) (read-one (t .kind) (drop (t .at) s) x (k .rest) e d r (k .reads))
-              (λ u y. one-comes (t .kind) (E .prog) (t .depth) (t .env) e (t .room) u (o .0) y (o .1) .1)) d k;
-          some = inr (E .prog, e, q, h, o .0, o .1) })
+        let n = steps (E .prog) t e (o .0) (o .1) in (
+          n,
+          record {
+            each = λ p d w k. subst (λ (r : Prog). (d : Syntax (t .kind)) → Here s r t d → (u : Result (t .kind)) (y : Does r t d u) → steps r t d u y ≡ n) (one-program s (E .prog) p q w)
+                (λ d k. subst (λ (d : Syntax (t .kind)). (u : Result (t .kind)) (y : Does (E .prog) t d u) → steps (E .prog) t d u y ≡ n) (read-one (t .kind) (drop (t .at) s) x (k .rest) e d r (k .reads))
+                (λ u y. one-comes (t .kind) (E .prog) (t .depth) (t .env) e (t .room) u (o .0) y (o .1) .1)) d k;
+            some = inr (E .prog, e, q, h, o .0, o .1);
+          },
+        )
+
     well : (e : Syntax (t .kind)) (x : List ℕ) → Read (t .kind) (drop (t .at) s) e x → Fine (t .kind) (E .prog) (length (t .env)) e ⊎ (Fine (t .kind) (E .prog) (length (t .env)) e → ⊥) → (n : ℕ) × Cost s t n
     well e x r (inl f) = it e x r f
     well e x r (inr f) = none (λ d h. f (subst (λ (d : Syntax (t .kind)). Fine (t .kind) (E .prog) (length (t .env)) d) (read-one (t .kind) (drop (t .at) s) (h .rest) x d e (h .reads) r) (h .fine)))
+
     go : ((e : Syntax (t .kind)) × (x : List ℕ) × Read (t .kind) (drop (t .at) s) e x) ⊎ ((e : Syntax (t .kind)) (x : List ℕ) → Read (t .kind) (drop (t .at) s) e x → ⊥) → (n : ℕ) × Cost s t n
     go (inl a) = well (a .0) (a .1) (a .2) (fine? (t .kind) (E .prog) (length (t .env)) (a .0))
     go (inr no-one) = none (λ e h. no-one e (h .rest) (h .reads))
@@ -161,6 +171,7 @@ leads-less s ends starts h j u t g st w = ∥∥₁-elim h le-prop (λ E.
 -- both stand where the task does
 pub within-stands : (s : List ℕ) (u t : Task) → Within s u t → Stands s t → Stands s u
 within-stands s u t w st p q = let e = st p q in let f = w p (e .0) q (e .1) in (f .0, f .1)
+
 pub leads-stands : (s : List ℕ) (j : ℕ) (u t : Task) (g : Result (u .kind) → Result (t .kind)) → Leads s j u t g → Stands s t → Stands s u
 leads-stands s j u t g w st p q = let e = st p q in let f = w p (e .0) q (e .1) in (f .0, f .1)
 
@@ -170,6 +181,7 @@ leads-says s j u t g w o h p e q k = let f = w p e q k in f .2 o (h p (f .0) q (
 
 pub leads-same : (s : List ℕ) (t : Task) → Leads s 0 t t (λ o. o)
 leads-same s t p e q k = (e, k, λ o y. (y, omega arith))
+
 pub leads-more : (s : List ℕ) (i j : ℕ) (u v t : Task) (f : Result (u .kind) → Result (v .kind)) (g : Result (v .kind) → Result (t .kind)) → Leads s i u v f → Leads s j v t g → Leads s 0 u t (λ o. g (f o))
 leads-more s i j u v t f g a b p e q k =
     let x = b p e q k in

@@ -59,7 +59,8 @@ module _ (s : List ℕ) (st0 : Store) (at0 base0 top0 depth0 : ℕ) (inside0 : B
 
     pub course-step : (st1 : Store) (at1 base1 top1 depth1 : ℕ) (inside1 : Bool) → Ready st1 base1 top1 → Wide s (length (st1 .frames .now)) at1 base1 top1 depth1 → Moved (floor inside base top) st st1 → floor inside base top ≤ floor inside1 base1 top1 → Leads s 1 (task st1 at1 base1 top1 depth1 inside1) (task st at base top depth inside) (λ o. o) → Course s st0 at0 base0 top0 depth0 inside0 st1 at1 base1 top1 depth1 inside1
     course-step st1 at1 base1 top1 depth1 inside1 r w m f l = record {
-      ready = r; wide = w;
+      ready = r;
+      wide = w;
       moved = moved-then (floor inside0 base0 top0) (floor inside base top) st0 st st1 (c .moved) m (c .above);
       above = let a = c .above in omega arith;
       leads = leads-more s 1 0 (task st1 at1 base1 top1 depth1 inside1) (task st at base top depth inside) (task st0 at0 base0 top0 depth0 inside0) (λ o. o) (λ o. o) l (c .leads);
@@ -90,6 +91,7 @@ worked-falls x st0 at0 base top depth n st at j vs h c more =
     let a = within-less (x .bytes .now) (x .ends .now) (x .starts .now) (x .ending) (task st at base top depth true) t (leads-stands (x .bytes .now) 0 t t0 g (c .leads) h) (worked-within (x .bytes .now) st0 at0 base top depth n st at j vs c more) in
     let b = leads-less (x .bytes .now) (x .ends .now) (x .starts .now) (x .ending) 0 t t0 g h (c .leads) in
     omega arith
+
 -- and what is left after a step
 pub step-falls : (x : Text) (st : Store) (at base top depth : ℕ) (inside : Bool) (st1 : Store) (at1 base1 top1 depth1 : ℕ) (inside1 : Bool) → Stands (x .bytes .now) (task st at base top depth inside) → Leads (x .bytes .now) 1 (task st1 at1 base1 top1 depth1 inside1) (task st at base top depth inside) (λ o. o) → cost-of x (task st1 at1 base1 top1 depth1 inside1) < cost-of x (task st at base top depth inside)
 step-falls x st at base top depth inside st1 at1 base1 top1 depth1 inside1 h l =
@@ -100,12 +102,16 @@ step-falls x st at base top depth inside st1 at1 base1 top1 depth1 inside1 h l =
 module _ (s : List ℕ) (w w′ at base top depth : ℕ) (wide : Wide s w at base top depth) (same : w′ ≡ w) where
   pub wide-part : (k : ℕ) → at ≤ k → Wide s w′ k base top depth
   wide-part k h = record { own = let o = wide .own in omega arith; bytes = wide .bytes; others = let o = wide .others in omega arith }
+
   pub wide-two : (k : ℕ) → at + 3 ≤ k → Wide s w′ k base (top + 2) depth
   wide-two k h = record { own = let o = wide .own in omega arith; bytes = wide .bytes; others = let o = wide .others in omega arith }
+
   pub wide-one : (k : ℕ) → at + 2 ≤ k → Wide s w′ k base (top + 1) depth
   wide-one k h = record { own = let o = wide .own in omega arith; bytes = wide .bytes; others = let o = wide .others in omega arith }
+
   pub wide-tail : (k n : ℕ) → n ≤ 8 → 0 < k → Wide s w′ k base (base + n) depth
   wide-tail k n few h = record { own = let o = wide .bytes in omega arith; bytes = wide .bytes; others = let o = wide .others in omega arith }
+
   pub wide-inner : (k n d : ℕ) → n ≤ 8 → 0 < k → at < length s → depth ≡ suc d → Wide s w′ k top (top + n) d
   wide-inner k n d few h l e = record { own = let o = wide .bytes in omega arith; bytes = wide .bytes; others = let a = wide .others in let o = wide .own in omega arith }
 
@@ -147,6 +153,7 @@ pub data Enters (base top depth : ℕ) : Bool → ℕ → ℕ → Bool → Type 
 
 pub opened : (base top depth : ℕ) (inside : Bool) (base1 depth1 : ℕ) (inside1 : Bool) → inside ≡ true → inside1 ≡ false → base1 ≡ top → depth ≡ suc depth1 → Enters base top depth inside base1 depth1 inside1
 opened base top depth inside base1 depth1 inside1 i j b d = subst (λ (k : Bool). Enters base top depth k base1 depth1 inside1) (sym i) (subst (λ (k : Bool). Enters base top depth true base1 depth1 k) (sym j) (opens b d))
+
 pub replaced : (base top depth : ℕ) (inside : Bool) (base1 depth1 : ℕ) (inside1 : Bool) → inside ≡ false → inside1 ≡ inside → base1 ≡ base → depth1 ≡ depth → Enters base top depth inside base1 depth1 inside1
 replaced base top depth inside base1 depth1 inside1 i j b d = subst (λ (k : Bool). Enters base top depth k base1 depth1 inside1) (sym i) (subst (λ (k : Bool). Enters base top depth false base1 depth1 k) (sym (j ∙ i)) (replaces b d))
 
@@ -197,3 +204,10 @@ moved-stopped floor st st1 st2 m a b c d = record {
   words = ap length d ∙ m .words;
   kept = λ j h. ap (λ (xs : List ℕ). getD xs j 0) d ∙ m .kept j h;
 }
+
+-- twice the cost falls by two at least
+pub falls-odd : (a b t : ℕ) → a < b → 2 * b ≡ t → 2 * a + 1 < t
+falls-odd a b t l e = omega arith
+
+pub falls-even : (a b t : ℕ) → a < b → 2 * b ≡ t → 2 * a < t
+falls-even a b t l e = omega arith

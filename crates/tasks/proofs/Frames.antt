@@ -146,11 +146,11 @@ env-given ws st (v ∷ vs) (suc n) l h =
     ap₂ _∷_ (ap (tree ws) (ap (λ k. getD st k 0) e ∙ h 0 (omega arith)))
     (env-given ws st vs n (omega arith) (λ i q. let f : n - 1 - i ≡ suc n - 1 - suc i = omega arith in ap (λ k. getD st k 0) f ∙ h (suc i) (omega arith)))
 
-pub held-given : (st0 st : Store) (base n : ℕ) (vs : List ℕ) → Giving st0 st base n vs n → n ≤ length vs → base + n ≤ length (st0 .frames .now) → Well (st0 .nodes .now) (st0 .used) (st0 .limit) → st0 .stop ≡ 0 → ((i : ℕ) → getD vs i 0 ≤ st0 .used) → Held base st0 st base (base + n) (map (tree (st0 .nodes .now)) (take n vs))
-held-given st0 st base n vs g l within well going old =
+pub held-given : (st0 st : Store) (base n j : ℕ) (vs : List ℕ) → j ≡ n → Giving st0 st base n vs j → n ≤ length vs → base + n ≤ length (st0 .frames .now) → Well (st0 .nodes .now) (st0 .used) (st0 .limit) → st0 .stop ≡ 0 → ((i : ℕ) → getD vs i 0 ≤ st0 .used) → Held base st0 st base (base + n) (map (tree (st0 .nodes .now)) (take n vs))
+held-given st0 st base n j vs all g l within well going old =
     let fr = st .frames .now in
     let e : (base + n) - base ≡ n = omega arith in
-    let there : (i : ℕ) → i < n → getD (drop base fr) (n - 1 - i) 0 ≡ getD vs i 0 = λ i h. getD-drop base fr (n - 1 - i) 0 ∙ g .put i h in
+    let there : (i : ℕ) → i < n → getD (drop base fr) (n - 1 - i) 0 ≡ getD vs i 0 = λ i h. getD-drop base fr (n - 1 - i) 0 ∙ g .put i (omega arith) in
     held st0 st fr base (base + n) base (map (tree (st0 .nodes .now)) (take n vs)) (g .wrote) well going (g .long) (g .kept) (omega arith)
     (λ j h. let f : n - 1 - (n - 1 - j) ≡ j = omega arith in let q = there (n - 1 - j) (omega arith) in let o = old (n - 1 - j) in let c = ap (λ k. getD (drop base fr) k 0) f in omega arith)
     (ap (env (st0 .nodes .now) (drop base fr)) e ∙ env-given (st0 .nodes .now) (drop base fr) vs n l there)

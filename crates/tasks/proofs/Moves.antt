@@ -81,6 +81,7 @@ module _ (s : List ℕ) (at : ℕ) (m : Mode) (d : ℕ) (ρ : List Tree) (r : �
     where
       second : (a b : Expr) → Eval p inner d ρ a r (val v q) → (o : Outcome) (x : Eval p m d ρ (a-node a b) r o) → (u : Outcome) × (y : Eval p inner d ρ b q u) × (rules y < rules x)
       second a b y o x = node-second y x
+
       go : {e : Expr} {x : List ℕ} → Goes Node (drop (at + 1) s) e x → T (ok p (length ρ) e) → (f : Expr) × Here s p (expr k inner d ρ q) f × ((o : Outcome) (x : Eval p m d ρ e r o) → (u : Outcome) × (y : Eval p inner d ρ f q u) × (rules y < rules x))
       go (g-node {a = a} {b = b} (r-cons {ys = ys} h (r-cons {ys = zs} l r-nil))) fine =
           let f = both (ok p (length ρ) a) (ok p (length ρ) b) fine in
@@ -242,6 +243,7 @@ module _ (s : List ℕ) (at d : ℕ) (ρ : List Tree) (r : ℕ) where
       after : (e : Expr) (es : Exprs) → Eval p inner d ρ e r (val v q) → (o : Outcomes) (y : EvalAll p d ρ es q o) → (x : EvalAll p d ρ (cons e es) r (prepend (v ∷ []) o)) × (rules-all y + 1 ≤ rules-all x)
       after e es x (vals ts l) y = (a-cons x y, omega arith)
       after e es x (no-vals o) y = (a-rest x y, omega arith)
+
       go : {x : List ℕ} {es : Exprs} → ReadsAll (suc n) (drop at s) es x → T (oks p (length ρ) es) → (fs : Exprs) × Here s p (list k n d ρ q) fs × ((o : Outcomes) (y : EvalAll p d ρ fs q o) → (x : EvalAll p d ρ es r (prepend (v ∷ []) o)) × (rules-all y + 1 ≤ rules-all x))
       go (r-cons {ys = ys} {zs = zs} {e = e} {es = es} h l) fine =
           let f = both (ok p (length ρ) e) (oks p (length ρ) es) fine in

@@ -48,21 +48,26 @@ same-frame st st1 base top r m = env-same (st .nodes .now) (st1 .nodes .now) (dr
 
 pub still : (st st1 : Store) (base top : ℕ) → Ready st base top → Moved top st st1 → st1 .stop ≡ 0 → Ready st1 base top
 still st st1 base top r m going = record {
-  well = m .well; going = going; ordered = r .ordered;
+  well = m .well;
+  going = going;
+  ordered = r .ordered;
   old = λ j h. let w = frame-word (st .frames .now) (st1 .frames .now) base top j (m .kept) h in let o = r .old j h in let g = m .grown .more in omega arith;
 }
 
 -- what has stopped has no value, and its tree does not matter
 pub value-is : (st : Store) (v : ℕ) → st .stop ≡ 0 → comes-to st v ≡ val (tree (st .nodes .now) v) (room st)
 value-is st v e = ap (λ k. outcome k (tree (st .nodes .now) v) (room st)) e
+
 bad : (k : ℕ) (t : Tree) (r : ℕ) → k ≢ 0 → Bad (outcome k t r)
 bad zero t r n = absurd (n refl)
 bad (suc zero) t r n = is-full
 bad (suc (suc k)) t r n = is-deep
+
 bad-same : (k : ℕ) (t u : Tree) (r : ℕ) → k ≢ 0 → outcome k t r ≡ outcome k u r
 bad-same zero t u r n = absurd (n refl)
 bad-same (suc zero) t u r n = refl
 bad-same (suc (suc k)) t u r n = refl
+
 pub stopped-says : (s : List ℕ) (at : ℕ) (m : Mode) (d : ℕ) (ρ : List Tree) (r : ℕ) (st : Store) (v w : ℕ) → st .stop ≢ 0 → Says s (expr at m d ρ r) (comes-to st v) → Says s (expr at m d ρ r) (comes-to st w)
 stopped-says s at m d ρ r st v w n says = subst (λ (o : Outcome). Says s (expr at m d ρ r) o) (bad-same (st .stop) (tree (st .nodes .now) v) (tree (st .nodes .now) w) (room st) n) says
 

@@ -46,9 +46,11 @@ module _ (s ends starts : List ℕ) (h : ∥ Ending s ends starts ∥₁) where
     where
       word : Ending s ends starts → EndWord s at (getD ends at 0)
       word E = let q = first-bytes at st .one in E .tables .ending at (omega arith) (omega arith)
+
       after : (w : ℕ) (e : Expr) (x : List ℕ) → Reads (drop at s) e x → EndWord s at w → at < w
       after zero e x r q = absurd (q .none refl e x r)
       after (suc w) e x r q = q .some (omega arith) .1
+
       end : (w : ℕ) (e : Expr) (x : List ℕ) → Reads (drop at s) e x → EndWord s at w → x ≡ drop w s
       end zero e x r q = absurd (q .none refl e x r)
       end (suc w) e x r q = reads-one r (q .some (omega arith) .3) .1

@@ -1,9 +1,24 @@
+ghost use mathlib.Core.Path.{_≡_};
 ghost use Prim.Native.Nat.{_<_};
 ghost use Rattle.reading.specs.Heads.{HeadAt};
 ghost use Rattle.std.specs.declared.option.Option.the-variants.{Some};
-ghost use Rattle.tasks.specs.Texts.{EndsAt, Body, Standing, Numbered};
+ghost use Rattle.tasks.specs.Texts.{Ending, EndsAt, Body, Standing, Numbered};
 use super::text::Text;
 use reading::head::Head;
+
+impl<'a> Text<'a> {
+    // The text of a program that ends, with its tables.
+    pub fn new(bytes: &'a [u8], ends: &'a [u32], starts: &'a [u32]) -> Text<'a>
+        requires { ⌜ Ending (now bytes) (now ends) (now starts) ⌝ }
+        ensures { λ r. ⌜ now (r .bytes) ≡ now (bytes .entry) ⌝ }
+    {
+        Text {
+            bytes,
+            ends,
+            starts,
+        }
+    }
+}
 
 impl Text<'_> {
     // The head of the expression that stands at a place.

@@ -14,12 +14,17 @@ use arena::nodes::put_node;
 
 // Why the work has stopped: it has not; there is no room for a node; too many calls are open.
 pub const GOING: u8 = 0;
+
 pub const FULL: u8 = 1;
+
 pub const DEEP: u8 = 2;
+
+// A function takes at most so many arguments.
+pub const MAX_ARGS: usize = 8;
 
 // The numbers of the arguments of a call, the first of the array as many as it has.
 #[derive(Clone, Copy)]
-pub struct Given(pub [u32; 8]);
+pub struct Given(pub [u32; MAX_ARGS]);
 
 impl Store<'_> {
     // Variable i, counted from the newest.
@@ -79,8 +84,12 @@ impl Store<'_> {
         requires within { ⌜ base + n ≤ length (now (now self .frames)) ⌝ }
         ensures { λ _. ⌜ (Well (now (now (self .entry) .nodes)) (now (self .entry) .used) (now (self .entry) .limit) → now (self .entry) .stop ≡ 0 → ((i : ℕ) → getD (given .0) i 0 ≤ now (self .entry) .used) → Held base (now (self .entry)) (now (self .exit)) base (base + n) (map (tree (now (now (self .entry) .nodes))) (take n (given .0)))) ⌝ }
     {
-        for j in 0..n {
-            self.frames[base + (n - 1 - j) as usize] = given.0[j as usize];
+        let n = n as usize;
+        for j in 0..MAX_ARGS {
+            if j == n {
+                return;
+            }
+            self.frames[base + (n - 1 - j)] = given.0[j];
         }
     }
 

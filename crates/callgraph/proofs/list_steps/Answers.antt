@@ -1,7 +1,6 @@
-use mathlib.Core.Path.{_≡_, refl, sym, subst}
+use mathlib.Core.Path.{refl, sym, subst}
 use Prim.Native.Nat.{ℕ, _+_}
 use native.Mathlib.Omega.{arith}
-use lib.ListN.{length, getD}
 use Rattle.callgraph.proofs.Laying.{note-as}
 use Rattle.callgraph.proofs.Listing.{Listing, listing-none, listing-at, listing-turn, listing-done, at-reads, at-walk}
 use Rattle.callgraph.proofs.list_steps.Needs as need

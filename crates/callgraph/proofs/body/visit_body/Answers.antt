@@ -1,13 +1,13 @@
-use mathlib.Core.Path.{_≡_, refl, sym, ap, subst, _∙_}
-use Prim.Native.Nat.{ℕ, _+_, _*_, _≤_, _<_}
+use mathlib.Core.Path.{sym, subst}
+use Prim.Native.Nat.{ℕ, _+_}
 use native.Mathlib.Omega.{arith}
-use lib.ListN.{length, getD}
+use lib.ListN.{getD}
 use mathlib.Core.List.{List}
 use Rattle.sizechange.specs.Graph.{Step}
 use Rattle.lang.specs.Program.{Prog}
-use Rattle.callgraph.specs.Standing.{Room, Stands}
-use Rattle.callgraph.specs.Pending.{Walk, Pending, Parts-wait}
-use Rattle.callgraph.proofs.Walking.{Walking, Here, here, walking-turn, going-done, going-before}
+use Rattle.callgraph.specs.Standing.{Stands}
+use Rattle.callgraph.specs.Pending.{Pending, Parts-wait}
+use Rattle.callgraph.proofs.Walking.{here, walking-turn, going-done, going-before}
 use Rattle.callgraph.proofs.body.visit_body.Needs as need
 
 pub head-of-head-requires : need.head-of-head-requires

@@ -1,11 +1,10 @@
 use mathlib.Core.Path.{_≡_, refl, ap, subst, _∙_}
-use Prim.Native.Nat.{ℕ, _+_}
+use Prim.Native.Nat.{ℕ}
 use native.Mathlib.Omega.{arith}
 use Rattle.lang.specs.Program.{Exprs}
 use Rattle.lang.specs.Steps.{arcs}
 use Rattle.graphs.specs.Words.{Words}
 use Rattle.origins.specs.Origins.{in-view}
-use Rattle.callgraph.specs.Standing.{hop}
 use Rattle.callgraph.proofs.Standing.{stands-next, stands-read, hop-on}
 use Rattle.callgraph.proofs.Arguments.{firsts, all-firsts, words-more}
 use Rattle.callgraph.proofs.expressions.graph_of.Needs as need

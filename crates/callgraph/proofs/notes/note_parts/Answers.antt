@@ -1,15 +1,14 @@
 use mathlib.Core.Path.{_≡_, refl, sym, ap, subst, _∙_}
-use mathlib.Core.Logic.{inl, inr, ⊎-elim}
-use Prim.Native.Nat.{ℕ, _+_, _*_, _<_, _≤_}
+use mathlib.Core.Logic.{⊎-elim}
+use Prim.Native.Nat.{ℕ, _+_, _≤_}
 use native.Mathlib.Omega.{arith}
-use lib.ListN.{length, drop, getD}
+use lib.ListN.{drop}
 use Rattle.std.specs.declared.option.Option.the-variants.{Some}
 use Rattle.lang.specs.Reads.{Reads}
 use Rattle.lang.specs.Steps.{origin, part}
-use Rattle.origins.specs.Origins.{from-of, in-view}
-use Rattle.origins.specs.Views.{Noted, Same-note}
+use Rattle.origins.specs.Views.{Noted}
 use Rattle.reading.specs.declared.head.Head.{Head}
-use Rattle.reading.specs.declared.head.Head.the-variants.{Var, Leaf, Node, Parts, Bind, Call}
+use Rattle.reading.specs.declared.head.Head.the-variants.{Var, Leaf, Node, Parts, Bind}
 use Rattle.reading.specs.Heads.{HeadAt, widthOf, arityOf}
 use Rattle.callgraph.specs.Standing.{Stands, StandAll, hop}
 use Rattle.callgraph.specs.Pending.{Parts-wait}
@@ -24,7 +23,7 @@ note-two-requires c κs =
     let a = h .there in
     let b = h .second in
     let r = c .pre .room in
-    record { there = omega arith; forward = h .forward; room = omega arith; fits = omega arith; few = omega arith; second = c .plain .ensures .outer }
+    record { there = omega arith; forward = h .forward; room = omega arith; fits = omega arith; few = omega arith }
 
 pub origin-at-requires : need.origin-at-requires
 origin-at-requires c κs =
@@ -38,10 +37,10 @@ note-two-requires-in-Parts c κs =
     let a = h .there in
     let b = h .second in
     let r = c .pre .room in
-    record { there = omega arith; forward = h .forward; room = omega arith; fits = omega arith; few = omega arith; second = refl }
+    record { there = omega arith; forward = h .forward; room = omega arith; fits = omega arith; few = omega arith }
 
-pub origin-of-origin-requires : need.origin-of-origin-requires
-origin-of-origin-requires c κs =
+pub origin-of-requires : need.origin-of-requires
+origin-of-requires c κs =
     let w : c .width .result ≡ 1 = c .width .ensures ∙ ap widthOf (c .in-Bind .is) in
     let k = stands-below (c .args .bytes .now) (c .args .vars) (c .args .at) (c .pre .stands) in
     record {
@@ -55,7 +54,7 @@ note-two-requires-in-Bind c κs =
     let a = h .there in
     let b = h .second in
     let r = c .pre .room in
-    record { there = omega arith; forward = h .forward; room = omega arith; fits = omega arith; few = omega arith; second = refl }
+    record { there = omega arith; forward = h .forward; room = omega arith; fits = omega arith; few = omega arith }
 
 pub note-all-requires : need.note-all-requires
 note-all-requires c κs =
@@ -85,14 +84,14 @@ returns-in-Node c =
     let q = c .note-two .ensures in
     by-head s (c .args .ends .now) (c .args .views .now) (c .note-two .last .views) (c .args .known .now) (c .args .vars) (c .args .at) (c .width .result) 0 0 (c .args .head) Node (c .in-Node .is) (c .width .ensures) (c .pre .head)
     (λ a n. node-wait s (c .args .ends .now) (c .args .views .now) (c .note-two .last .views) (c .args .known .now) (c .pre .room .ending) (c .args .vars) (c .args .at) a (c .pre .few) n)
-    (record { first = q .first; next = note-as _ _ _ _ _ _ _ _ refl (c .plain .ensures .new) (c .plain .ensures .origin) (q .next); others = q .others })
+    (record { first = note-as (c .note-two .last .views) _ _ _ _ _ _ _ (c .plain .ensures .outer) refl refl (q .first); next = note-as (c .note-two .last .views) _ _ _ _ _ _ _ (c .plain .ensures .outer) (c .plain .ensures .new) (c .plain .ensures .origin) (q .next); others = q .others })
 
 pub returns-in-Parts : need.returns-in-Parts
 returns-in-Parts c =
     let s = c .args .bytes .now in
     let q = c .note-two-in-Parts .ensures in
-    by-head s (c .args .ends .now) (c .args .views .now) (c .note-two-in-Parts .last .views) (c .args .known .now) (c .args .vars) (c .args .at) (c .width .result) 2 (c .part-origin .result .0) (c .args .head) (Parts (c .in-Parts .i)) (c .in-Parts .is) (c .width .ensures) (c .pre .head)
-    (λ a n. parts-wait s (c .args .ends .now) (c .args .views .now) (c .note-two-in-Parts .last .views) (c .args .known .now) (c .pre .room .ending) (c .args .vars) (c .args .at) (c .in-Parts .i) (c .part-origin .result .0) a (c .pre .few) (c .part-origin .ensures ∙ ap part (c .origin-at .ensures)) n)
+    by-head s (c .args .ends .now) (c .args .views .now) (c .note-two-in-Parts .last .views) (c .args .known .now) (c .args .vars) (c .args .at) (c .width .result) 2 (c .part .result .0) (c .args .head) (Parts (c .in-Parts .i)) (c .in-Parts .is) (c .width .ensures) (c .pre .head)
+    (λ a n. parts-wait s (c .args .ends .now) (c .args .views .now) (c .note-two-in-Parts .last .views) (c .args .known .now) (c .pre .room .ending) (c .args .vars) (c .args .at) (c .in-Parts .i) (c .part .result .0) a (c .pre .few) (c .part .ensures ∙ ap part (c .origin-at .ensures)) n)
     (record { first = q .first; next = q .next; others = q .others })
 
 pub returns-in-Bind : need.returns-in-Bind
@@ -100,8 +99,8 @@ returns-in-Bind c =
     let s = c .args .bytes .now in
     let q = c .note-two-in-Bind .ensures in
     let w : 1 ≡ c .width .result = sym (c .width .ensures ∙ ap widthOf (c .in-Bind .is)) in
-    by-head s (c .args .ends .now) (c .args .views .now) (c .note-two-in-Bind .last .views) (c .args .known .now) (c .args .vars) (c .args .at) (c .width .result) 1 (c .origin-of-origin .result .0) (c .args .head) Bind (c .in-Bind .is) (c .width .ensures) (c .pre .head)
-    (λ a n. bind-wait s (c .args .ends .now) (c .args .views .now) (c .note-two-in-Bind .last .views) (c .args .known .now) (c .pre .room .ending) (c .args .vars) (c .args .at) (c .origin-of-origin .result .0) a (c .pre .few) (λ e x r. c .origin-of-origin .ensures e x (subst (λ (j : ℕ). Reads (drop (c .args .at + j) s) e x) w r)) n)
+    by-head s (c .args .ends .now) (c .args .views .now) (c .note-two-in-Bind .last .views) (c .args .known .now) (c .args .vars) (c .args .at) (c .width .result) 1 (c .origin-of .result .0) (c .args .head) Bind (c .in-Bind .is) (c .width .ensures) (c .pre .head)
+    (λ a n. bind-wait s (c .args .ends .now) (c .args .views .now) (c .note-two-in-Bind .last .views) (c .args .known .now) (c .pre .room .ending) (c .args .vars) (c .args .at) (c .origin-of .result .0) a (c .pre .few) (λ e x r. c .origin-of .ensures e x (subst (λ (j : ℕ). Reads (drop (c .args .at + j) s) e x) w r)) n)
     (record { first = q .first; next = q .next; others = q .others })
 
 pub returns-in-Call : need.returns-in-Call

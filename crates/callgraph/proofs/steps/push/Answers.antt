@@ -1,7 +1,6 @@
-use mathlib.Core.Path.{_≡_, sym, ap, subst}
+use mathlib.Core.Path.{sym, ap, subst}
 use Prim.Native.Nat.{_+_}
 use Rattle.std.specs.declared.option.Option.{Option}
-use Rattle.std.specs.declared.option.Option.the-variants.{Some}
 use Rattle.table.specs.declared.Edge.{Edge}
 use Rattle.callgraph.specs.StepRows.{OneStep, number}
 use Rattle.callgraph.proofs.Stepping.{rows-one}

@@ -3,12 +3,11 @@ use Prim.Native.Nat.{ℕ, _+_, _≤_}
 use native.Mathlib.Omega.{arith}
 use lib.Dec.{lit≤}
 use Rattle.std.specs.declared.option.Option.the-variants.{Some}
-use Rattle.lang.specs.Program.{Expr, Exprs, Prog}
+use Rattle.lang.specs.Program.{Exprs, Prog}
 use Rattle.lang.specs.Steps.{arcs}
 use Rattle.graphs.specs.Words.{Words}
 use Rattle.origins.specs.Origins.{in-view}
 use Rattle.reading.specs.declared.head.Head.{Head}
-use Rattle.reading.specs.declared.head.Head.the-variants.{Call}
 use Rattle.reading.specs.Heads.{HeadAt, widthOf}
 use Rattle.callgraph.specs.Standing.{StandAll, StandingAll}
 use Rattle.callgraph.proofs.Parting.{call-stands}

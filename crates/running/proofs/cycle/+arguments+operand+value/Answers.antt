@@ -14,49 +14,93 @@ use Rattle.tasks.proofs.Costs.{within-stands, leads-stands}
 use Rattle.tasks.proofs.Moves.{prepend}
 use Rattle.tasks.proofs.Paths.{moved-then, still, same-frame, path-var, path-leaf, path-left, path-left-stops, path-right, path-right-stops, path-made, path-bound, path-parts-leaf, path-parts-node, path-value, path-value-stops}
 use Rattle.tasks.proofs.Calling.{Worked, moved-same, zeros, old-set, worked-none, worked-all, worked-within, worked-stop, worked-more, worked-stands, path-args, path-args-stop, path-deep, path-tail, path-inner}
-use Rattle.tasks.proofs.Courses.{Course, cost-of, course-start, course-stands, course-says, course-moved, course-step, course-up, here-parts, course-falls, worked-falls, step-falls, here, below-end, var-view, parts-view, few-given, call-numbered, words-above, wide-part, wide-one, wide-two, Enters, opened, replaced, enters-wide, enters-words, enters-leads, course-enters, moved-stopped}
-use Rattle.running.proofs.cycle.+arguments+value.Needs as need
-use Rattle.running.proofs.cycle.+arguments+value.Needs.{value-then-inside·else-depth-eq0, value-else-inside}
+use Rattle.tasks.proofs.Courses.{Course, cost-of, falls-odd, falls-even, course-start, course-stands, course-says, course-moved, course-step, course-up, here-parts, course-falls, worked-falls, step-falls, here, below-end, var-view, parts-view, few-given, call-numbered, words-above, wide-part, wide-one, wide-two, Enters, opened, replaced, enters-wide, enters-words, enters-leads, course-enters, moved-stopped}
+use Rattle.running.proofs.cycle.+arguments+operand+value.Needs as need
+use Rattle.running.proofs.cycle.+arguments+operand+value.Needs.{value-then-inside·else-depth-eq0, value-else-inside}
 
 pub arguments-loop-j-holds : need.arguments-loop-j-holds
 arguments-loop-j-holds t c =
     (omega arith, c .pre .wide, worked-none (c .args .text .now .bytes .now) (c .args .store .now) (c .args .at) (c .args .base) (c .args .top) (c .args .depth) (c .args .n) _ (c .pre .ready) refl (zeros 8 (c .args .store .now .used)))
 
-pub arguments-value-v-requires : need.arguments-value-v-requires
-arguments-value-v-requires t c κs =
+pub arguments-returns-then-j-n : need.arguments-returns-then-j-n
+arguments-returns-then-j-n t c =
     let w = c .loop-j .inv .2 in
-    let f = worked-falls (c .args .text .now) (c .args .store .now) (c .args .at) (c .args .base) (c .args .top) (c .args .depth) (c .args .n) (c .loop-j .store) (c .loop-j .at) (c .loop-j .j) (c .loop-j .given .0) (c .pre .stand) w (c .loop-j-test .taken) in
-    (subst (λ (n : ℕ). cost-of (c .args .text .now) (task (c .loop-j .store) (c .loop-j .at) (c .args .base) (c .args .top) (c .args .depth) true) < n) (c .measured) f, (w .ready, (c .loop-j .inv .1, worked-stands (c .args .text .now .bytes .now) (c .args .store .now) (c .args .at) (c .args .base) (c .args .top) (c .args .depth) (c .args .n) (c .loop-j .store) (c .loop-j .at) (c .loop-j .j) (c .loop-j .given .0) w (c .loop-j-test .taken) (c .pre .stand))))
+    record { moved = w .moved; there = w .old; say = worked-all (c .args .text .now .bytes .now) (c .args .store .now) (c .args .at) (c .args .base) (c .args .top) (c .args .depth) (c .args .n) (c .loop-j .store) (c .loop-j .at) (c .loop-j .j) (c .loop-j .given .0) w (c .if-j-n .taken) }
+
+pub arguments-operand-v-requires : need.arguments-operand-v-requires
+arguments-operand-v-requires t c κs =
+    let w = c .loop-j .inv .2 in
+    let le = c .loop-j .inv .0 in
+    let ne = c .if-j-n .left in
+    let more : c .loop-j .j < c .args .n = omega arith in
+    let f = worked-falls (c .args .text .now) (c .args .store .now) (c .args .at) (c .args .base) (c .args .top) (c .args .depth) (c .args .n) (c .loop-j .store) (c .loop-j .at) (c .loop-j .j) (c .loop-j .given .0) (c .pre .stand) w more in
+    (falls-odd (cost-of (c .args .text .now) (task (c .loop-j .store) (c .loop-j .at) (c .args .base) (c .args .top) (c .args .depth) true)) (cost-of (c .args .text .now) (tasks (c .args .store .now) (c .args .at) (c .args .base) (c .args .top) (c .args .depth) (c .args .n))) t f (c .measured), (w .ready, (c .loop-j .inv .1, worked-stands (c .args .text .now .bytes .now) (c .args .store .now) (c .args .at) (c .args .base) (c .args .top) (c .args .depth) (c .args .n) (c .loop-j .store) (c .loop-j .at) (c .loop-j .j) (c .loop-j .given .0) w more (c .pre .stand))))
 
 pub arguments-returns-then-store-ne-GOING : need.arguments-returns-then-store-ne-GOING
 arguments-returns-then-store-ne-GOING t c =
     let w = c .loop-j .inv .2 in
-    let m = c .value-v .ensures .moved in
+    let le = c .loop-j .inv .0 in
+    let ne = c .if-j-n .left in
+    let more : c .loop-j .j < c .args .n = omega arith in
+    let m = c .operand-v .ensures .moved in
     let l = w .long in
     record {
-      moved = moved-then (c .args .top) (c .args .top) (c .args .store .now) (c .loop-j .store) (c .value-v .last .store) (w .moved) m (omega arith);
-      there = old-set (c .loop-j .given .0) (c .loop-j .j) (c .value-v .result) (c .loop-j .store .used) (c .value-v .last .store .used) (omega arith) (m .grown .more) (c .value-v .ensures .there) (w .old);
-      say = worked-stop (c .args .text .now .bytes .now) (c .args .store .now) (c .args .at) (c .args .base) (c .args .top) (c .args .depth) (c .args .n) (c .loop-j .store) (c .loop-j .at) (c .loop-j .j) (c .loop-j .given .0) w (c .loop-j-test .taken) (c .value-v .last .store) (c .value-v .result) (c .value-v .ensures .says) _ (c .if-store-ne-GOING .taken);
+      moved = moved-then (c .args .top) (c .args .top) (c .args .store .now) (c .loop-j .store) (c .operand-v .last .store) (w .moved) m (omega arith);
+      there = old-set (c .loop-j .given .0) (c .loop-j .j) (c .operand-v .result) (c .loop-j .store .used) (c .operand-v .last .store .used) (omega arith) (m .grown .more) (c .operand-v .ensures .there) (w .old);
+      say = worked-stop (c .args .text .now .bytes .now) (c .args .store .now) (c .args .at) (c .args .base) (c .args .top) (c .args .depth) (c .args .n) (c .loop-j .store) (c .loop-j .at) (c .loop-j .j) (c .loop-j .given .0) w more (c .operand-v .last .store) (c .operand-v .result) (c .operand-v .ensures .says) _ (c .if-store-ne-GOING .taken);
     }
 
 pub arguments-end-at-requires : need.arguments-end-at-requires
 arguments-end-at-requires t c κs =
     let w = c .loop-j .inv .2 in
-    here (c .args .text .now) (c .loop-j .store) (c .loop-j .at) (c .args .base) (c .args .top) (c .args .depth) true (worked-stands (c .args .text .now .bytes .now) (c .args .store .now) (c .args .at) (c .args .base) (c .args .top) (c .args .depth) (c .args .n) (c .loop-j .store) (c .loop-j .at) (c .loop-j .j) (c .loop-j .given .0) w (c .loop-j-test .taken) (c .pre .stand))
+    let le = c .loop-j .inv .0 in
+    let ne = c .if-j-n .left in
+    let more : c .loop-j .j < c .args .n = omega arith in
+    here (c .args .text .now) (c .loop-j .store) (c .loop-j .at) (c .args .base) (c .args .top) (c .args .depth) true (worked-stands (c .args .text .now .bytes .now) (c .args .store .now) (c .args .at) (c .args .base) (c .args .top) (c .args .depth) (c .args .n) (c .loop-j .store) (c .loop-j .at) (c .loop-j .j) (c .loop-j .given .0) w more (c .pre .stand))
 
 pub arguments-loop-j-again : need.arguments-loop-j-again
 arguments-loop-j-again t c =
     let w = c .loop-j .inv .2 in
-    let m = c .value-v .ensures .moved in
-    let e = c .end-at .ensures in
-    (omega arith,
-      wide-part (c .args .text .now .bytes .now) (length (c .loop-j .store .frames .now)) (length (c .value-v .last .store .frames .now)) (c .loop-j .at) (c .args .base) (c .args .top) (c .args .depth) (c .loop-j .inv .1) (m .words) (c .end-at .result) (let a = e .after in omega arith),
-      worked-more (c .args .text .now .bytes .now) (c .args .store .now) (c .args .at) (c .args .base) (c .args .top) (c .args .depth) (c .args .n) (c .loop-j .store) (c .loop-j .at) (c .loop-j .j) (c .loop-j .given .0) w (c .loop-j-test .taken) (c .value-v .last .store) (c .value-v .result) (c .value-v .ensures .says) (c .end-at .result) (omega arith) m (c .value-v .ensures .there) (c .if-store-ne-GOING .left) e)
+    let le = c .loop-j .inv .0 in
+    let ne = c .if-j-n .left in
+    let more : c .loop-j .j < c .args .n = omega arith in
+    let m = c .operand-v .ensures .moved in
+    let e = c .end-at .ensures in (
+      omega arith,
+      wide-part (c .args .text .now .bytes .now) (length (c .loop-j .store .frames .now)) (length (c .operand-v .last .store .frames .now)) (c .loop-j .at) (c .args .base) (c .args .top) (c .args .depth) (c .loop-j .inv .1) (m .words) (c .end-at .result) (let a = e .after in omega arith),
+      worked-more (c .args .text .now .bytes .now) (c .args .store .now) (c .args .at) (c .args .base) (c .args .top) (c .args .depth) (c .args .n) (c .loop-j .store) (c .loop-j .at) (c .loop-j .j) (c .loop-j .given .0) w more (c .operand-v .last .store) (c .operand-v .result) (c .operand-v .ensures .says) (c .end-at .result) (omega arith) m (c .operand-v .ensures .there) (c .if-store-ne-GOING .left) e,
+    )
 
 pub arguments-returns : need.arguments-returns
 arguments-returns t c =
     let w = c .loop-j .inv .2 in
     record { moved = w .moved; there = w .old; say = worked-all (c .args .text .now .bytes .now) (c .args .store .now) (c .args .at) (c .args .base) (c .args .top) (c .args .depth) (c .args .n) (c .loop-j .store) (c .loop-j .at) (c .loop-j .j) (c .loop-j .given .0) w (let l = c .loop-j .inv .0 in omega arith) }
+
+pub operand-head-requires : need.operand-head-requires
+operand-head-requires t c κs =
+    here (c .args .text .now) (c .args .store .now) (c .args .at) (c .args .base) (c .args .top) (c .args .depth) true (c .pre .stands)
+
+pub operand-variable-requires : need.operand-variable-requires
+operand-variable-requires t c κs =
+    let a = c .in-Var .ensures tt in
+    let v = var-view (c .args .text .now) (c .args .store .now) (c .args .at) (c .args .base) (c .args .top) (c .args .depth) true (c .pre .stands) (c .in-Var .i) a in
+    let w = words-above (c .args .text .now) (c .args .store .now) (c .args .at) (c .args .base) (c .args .top) (c .args .depth) true (c .pre .stands) (c .pre .wide) (c .pre .ready) in
+    record { below = omega arith; within = omega arith }
+
+pub operand-returns-in-Var : need.operand-returns-in-Var
+operand-returns-in-Var t c =
+    let a = c .in-Var .ensures tt in
+    let v = var-view (c .args .text .now) (c .args .store .now) (c .args .at) (c .args .base) (c .args .top) (c .args .depth) true (c .pre .stands) (c .in-Var .i) a in
+    record { moved = moved-same (c .args .top) (c .args .store .now) (c .args .base) (c .args .top) (c .pre .ready); there = c .variable .ensures .there (c .args .base) (c .pre .ready) v; says = path-var (c .args .text .now .bytes .now) (c .args .store .now) (c .args .at) (c .args .base) (c .args .top) (c .args .depth) true (c .in-Var .i) (c .variable .result) (c .pre .ready .going) a (c .variable .ensures .is (c .args .base) (c .pre .ready) v) }
+
+pub operand-returns-in-Leaf : need.operand-returns-in-Leaf
+operand-returns-in-Leaf t c =
+    let a = c .in-Leaf .ensures tt in
+    record { moved = moved-same (c .args .top) (c .args .store .now) (c .args .base) (c .args .top) (c .pre .ready); there = omega arith; says = path-leaf (c .args .text .now .bytes .now) (c .args .store .now) (c .args .at) (c .args .base) (c .args .top) (c .args .depth) true (c .pre .ready .going) a }
+
+pub operand-value-requires : need.operand-value-requires
+operand-value-requires t c κs =
+    (let m = c .measured in omega arith, (c .pre .ready, (c .pre .wide, c .pre .stands)))
 
 pub value-body-holds : need.value-body-holds
 value-body-holds t c =
@@ -87,17 +131,17 @@ value-returns-in-Leaf t c =
     let a = c .in-Leaf .ensures tt in
     record { moved = c .body .inv .moved; there = omega arith; says = course-says (c .args .text .now .bytes .now) (c .args .store .now) (c .args .at) (c .args .base) (c .args .top) (c .args .depth) (c .args .inside) (c .body .store) (c .body .at) (c .body .base) (c .body .top) (c .body .depth) (c .body .inside) (c .body .inv) _ (path-leaf (c .args .text .now .bytes .now) (c .body .store) (c .body .at) (c .body .base) (c .body .top) (c .body .depth) (c .body .inside) (c .body .inv .ready .going) a) }
 
-pub value-value-left-requires : need.value-value-left-requires
-value-value-left-requires t c κs =
+pub value-operand-left-requires : need.value-operand-left-requires
+value-operand-left-requires t c κs =
     let h = course-stands (c .args .text .now .bytes .now) (c .args .store .now) (c .args .at) (c .args .base) (c .args .top) (c .args .depth) (c .args .inside) (c .body .store) (c .body .at) (c .body .base) (c .body .top) (c .body .depth) (c .body .inside) (c .body .inv) (c .pre .stands) in
     let a = c .in-Node .ensures tt in
     let p = path-left (c .args .text .now .bytes .now) (c .body .store) (c .body .at) (c .body .base) (c .body .top) (c .body .depth) (c .body .inside) a in
-    (subst (λ (n : ℕ). cost-of (c .args .text .now) (task (c .body .store) (c .body .at + 1) (c .body .base) (c .body .top) (c .body .depth) true) < n) (c .measured) (course-falls (c .args .text .now) (c .args .store .now) (c .args .at) (c .args .base) (c .args .top) (c .args .depth) (c .args .inside) (c .body .store) (c .body .at) (c .body .base) (c .body .top) (c .body .depth) (c .body .inside) (c .pre .stands) (c .body .inv) (task (c .body .store) (c .body .at + 1) (c .body .base) (c .body .top) (c .body .depth) true) p), (c .body .inv .ready, (wide-part (c .args .text .now .bytes .now) (length (c .body .store .frames .now)) (length (c .body .store .frames .now)) (c .body .at) (c .body .base) (c .body .top) (c .body .depth) (c .body .inv .wide) refl (c .body .at + 1) (omega arith), within-stands (c .args .text .now .bytes .now) (task (c .body .store) (c .body .at + 1) (c .body .base) (c .body .top) (c .body .depth) true) (task (c .body .store) (c .body .at) (c .body .base) (c .body .top) (c .body .depth) (c .body .inside)) p h)))
+    (falls-odd (cost-of (c .args .text .now) (task (c .body .store) (c .body .at + 1) (c .body .base) (c .body .top) (c .body .depth) true)) (cost-of (c .args .text .now) (task (c .args .store .now) (c .args .at) (c .args .base) (c .args .top) (c .args .depth) (c .args .inside))) t (course-falls (c .args .text .now) (c .args .store .now) (c .args .at) (c .args .base) (c .args .top) (c .args .depth) (c .args .inside) (c .body .store) (c .body .at) (c .body .base) (c .body .top) (c .body .depth) (c .body .inside) (c .pre .stands) (c .body .inv) (task (c .body .store) (c .body .at + 1) (c .body .base) (c .body .top) (c .body .depth) true) p) (c .measured), (c .body .inv .ready, (wide-part (c .args .text .now .bytes .now) (length (c .body .store .frames .now)) (length (c .body .store .frames .now)) (c .body .at) (c .body .base) (c .body .top) (c .body .depth) (c .body .inv .wide) refl (c .body .at + 1) (omega arith), within-stands (c .args .text .now .bytes .now) (task (c .body .store) (c .body .at + 1) (c .body .base) (c .body .top) (c .body .depth) true) (task (c .body .store) (c .body .at) (c .body .base) (c .body .top) (c .body .depth) (c .body .inside)) p h)))
 
 pub value-returns-then-store-ne-GOING : need.value-returns-then-store-ne-GOING
 value-returns-then-store-ne-GOING t c =
     let a = c .in-Node .ensures tt in
-    record { moved = course-moved (c .args .text .now .bytes .now) (c .args .store .now) (c .args .at) (c .args .base) (c .args .top) (c .args .depth) (c .args .inside) (c .body .store) (c .body .at) (c .body .base) (c .body .top) (c .body .depth) (c .body .inside) (c .body .inv) (c .value-left .last .store) (c .value-left .ensures .moved); there = omega arith; says = course-says (c .args .text .now .bytes .now) (c .args .store .now) (c .args .at) (c .args .base) (c .args .top) (c .args .depth) (c .args .inside) (c .body .store) (c .body .at) (c .body .base) (c .body .top) (c .body .depth) (c .body .inside) (c .body .inv) _ (path-left-stops (c .args .text .now .bytes .now) (c .body .store) (c .body .at) (c .body .base) (c .body .top) (c .body .depth) (c .body .inside) (c .value-left .last .store) (c .value-left .result) a (c .if-store-ne-GOING .taken) (c .value-left .ensures .says)) }
+    record { moved = course-moved (c .args .text .now .bytes .now) (c .args .store .now) (c .args .at) (c .args .base) (c .args .top) (c .args .depth) (c .args .inside) (c .body .store) (c .body .at) (c .body .base) (c .body .top) (c .body .depth) (c .body .inside) (c .body .inv) (c .operand-left .last .store) (c .operand-left .ensures .moved); there = omega arith; says = course-says (c .args .text .now .bytes .now) (c .args .store .now) (c .args .at) (c .args .base) (c .args .top) (c .args .depth) (c .args .inside) (c .body .store) (c .body .at) (c .body .base) (c .body .top) (c .body .depth) (c .body .inside) (c .body .inv) _ (path-left-stops (c .args .text .now .bytes .now) (c .body .store) (c .body .at) (c .body .base) (c .body .top) (c .body .depth) (c .body .inside) (c .operand-left .last .store) (c .operand-left .result) a (c .if-store-ne-GOING .taken) (c .operand-left .ensures .says)) }
 
 pub value-end-next-requires : need.value-end-next-requires
 value-end-next-requires t c κs =
@@ -105,24 +149,24 @@ value-end-next-requires t c κs =
     let a = c .in-Node .ensures tt in
     here (c .args .text .now) (c .body .store) (c .body .at + 1) (c .body .base) (c .body .top) (c .body .depth) true (within-stands (c .args .text .now .bytes .now) (task (c .body .store) (c .body .at + 1) (c .body .base) (c .body .top) (c .body .depth) true) (task (c .body .store) (c .body .at) (c .body .base) (c .body .top) (c .body .depth) (c .body .inside)) (path-left (c .args .text .now .bytes .now) (c .body .store) (c .body .at) (c .body .base) (c .body .top) (c .body .depth) (c .body .inside) a) h)
 
-pub value-value-right-requires : need.value-value-right-requires
-value-value-right-requires t c κs =
+pub value-operand-right-requires : need.value-operand-right-requires
+value-operand-right-requires t c κs =
     let h = course-stands (c .args .text .now .bytes .now) (c .args .store .now) (c .args .at) (c .args .base) (c .args .top) (c .args .depth) (c .args .inside) (c .body .store) (c .body .at) (c .body .base) (c .body .top) (c .body .depth) (c .body .inside) (c .body .inv) (c .pre .stands) in
     let a = c .in-Node .ensures tt in
     let l = c .end-next .ensures .after in
-    let p = path-right (c .args .text .now .bytes .now) (c .body .store) (c .body .at) (c .body .base) (c .body .top) (c .body .depth) (c .body .inside) (c .body .inv .ready) (c .value-left .last .store) (c .value-left .result) (c .end-next .result) (c .value-left .ensures .moved) (c .if-store-ne-GOING .left) (c .value-left .ensures .says) (c .end-next .ensures) a in
-    (subst (λ (n : ℕ). cost-of (c .args .text .now) (task (c .value-left .last .store) (c .end-next .result) (c .body .base) (c .body .top) (c .body .depth) true) < n) (c .measured) (course-falls (c .args .text .now) (c .args .store .now) (c .args .at) (c .args .base) (c .args .top) (c .args .depth) (c .args .inside) (c .body .store) (c .body .at) (c .body .base) (c .body .top) (c .body .depth) (c .body .inside) (c .pre .stands) (c .body .inv) (task (c .value-left .last .store) (c .end-next .result) (c .body .base) (c .body .top) (c .body .depth) true) p), (still (c .body .store) (c .value-left .last .store) (c .body .base) (c .body .top) (c .body .inv .ready) (c .value-left .ensures .moved) (c .if-store-ne-GOING .left), (wide-part (c .args .text .now .bytes .now) (length (c .body .store .frames .now)) (length (c .value-left .last .store .frames .now)) (c .body .at) (c .body .base) (c .body .top) (c .body .depth) (c .body .inv .wide) (c .value-left .ensures .moved .words) (c .end-next .result) (omega arith), within-stands (c .args .text .now .bytes .now) (task (c .value-left .last .store) (c .end-next .result) (c .body .base) (c .body .top) (c .body .depth) true) (task (c .body .store) (c .body .at) (c .body .base) (c .body .top) (c .body .depth) (c .body .inside)) p h)))
+    let p = path-right (c .args .text .now .bytes .now) (c .body .store) (c .body .at) (c .body .base) (c .body .top) (c .body .depth) (c .body .inside) (c .body .inv .ready) (c .operand-left .last .store) (c .operand-left .result) (c .end-next .result) (c .operand-left .ensures .moved) (c .if-store-ne-GOING .left) (c .operand-left .ensures .says) (c .end-next .ensures) a in
+    (falls-odd (cost-of (c .args .text .now) (task (c .operand-left .last .store) (c .end-next .result) (c .body .base) (c .body .top) (c .body .depth) true)) (cost-of (c .args .text .now) (task (c .args .store .now) (c .args .at) (c .args .base) (c .args .top) (c .args .depth) (c .args .inside))) t (course-falls (c .args .text .now) (c .args .store .now) (c .args .at) (c .args .base) (c .args .top) (c .args .depth) (c .args .inside) (c .body .store) (c .body .at) (c .body .base) (c .body .top) (c .body .depth) (c .body .inside) (c .pre .stands) (c .body .inv) (task (c .operand-left .last .store) (c .end-next .result) (c .body .base) (c .body .top) (c .body .depth) true) p) (c .measured), (still (c .body .store) (c .operand-left .last .store) (c .body .base) (c .body .top) (c .body .inv .ready) (c .operand-left .ensures .moved) (c .if-store-ne-GOING .left), (wide-part (c .args .text .now .bytes .now) (length (c .body .store .frames .now)) (length (c .operand-left .last .store .frames .now)) (c .body .at) (c .body .base) (c .body .top) (c .body .depth) (c .body .inv .wide) (c .operand-left .ensures .moved .words) (c .end-next .result) (omega arith), within-stands (c .args .text .now .bytes .now) (task (c .operand-left .last .store) (c .end-next .result) (c .body .base) (c .body .top) (c .body .depth) true) (task (c .body .store) (c .body .at) (c .body .base) (c .body .top) (c .body .depth) (c .body .inside)) p h)))
 
 pub value-returns-then-store-ne-GOING-2 : need.value-returns-then-store-ne-GOING-2
 value-returns-then-store-ne-GOING-2 t c =
     let a = c .in-Node .ensures tt in
-    record { moved = course-moved (c .args .text .now .bytes .now) (c .args .store .now) (c .args .at) (c .args .base) (c .args .top) (c .args .depth) (c .args .inside) (c .body .store) (c .body .at) (c .body .base) (c .body .top) (c .body .depth) (c .body .inside) (c .body .inv) (c .value-right .last .store) (moved-then (c .body .top) (c .body .top) (c .body .store) (c .value-left .last .store) (c .value-right .last .store) (c .value-left .ensures .moved) (c .value-right .ensures .moved) (omega arith)); there = omega arith; says = course-says (c .args .text .now .bytes .now) (c .args .store .now) (c .args .at) (c .args .base) (c .args .top) (c .args .depth) (c .args .inside) (c .body .store) (c .body .at) (c .body .base) (c .body .top) (c .body .depth) (c .body .inside) (c .body .inv) _ (path-right-stops (c .args .text .now .bytes .now) (c .body .store) (c .body .at) (c .body .base) (c .body .top) (c .body .depth) (c .body .inside) (c .body .inv .ready) (c .value-left .last .store) (c .value-left .result) (c .end-next .result) (c .value-left .ensures .moved) (c .if-store-ne-GOING .left) (c .value-left .ensures .says) (c .end-next .ensures) (c .value-right .last .store) (c .value-right .result) a (c .if-store-ne-GOING-2 .taken) (c .value-right .ensures .says)) }
+    record { moved = course-moved (c .args .text .now .bytes .now) (c .args .store .now) (c .args .at) (c .args .base) (c .args .top) (c .args .depth) (c .args .inside) (c .body .store) (c .body .at) (c .body .base) (c .body .top) (c .body .depth) (c .body .inside) (c .body .inv) (c .operand-right .last .store) (moved-then (c .body .top) (c .body .top) (c .body .store) (c .operand-left .last .store) (c .operand-right .last .store) (c .operand-left .ensures .moved) (c .operand-right .ensures .moved) (omega arith)); there = omega arith; says = course-says (c .args .text .now .bytes .now) (c .args .store .now) (c .args .at) (c .args .base) (c .args .top) (c .args .depth) (c .args .inside) (c .body .store) (c .body .at) (c .body .base) (c .body .top) (c .body .depth) (c .body .inside) (c .body .inv) _ (path-right-stops (c .args .text .now .bytes .now) (c .body .store) (c .body .at) (c .body .base) (c .body .top) (c .body .depth) (c .body .inside) (c .body .inv .ready) (c .operand-left .last .store) (c .operand-left .result) (c .end-next .result) (c .operand-left .ensures .moved) (c .if-store-ne-GOING .left) (c .operand-left .ensures .says) (c .end-next .ensures) (c .operand-right .last .store) (c .operand-right .result) a (c .if-store-ne-GOING-2 .taken) (c .operand-right .ensures .says)) }
 
 pub value-returns-in-Node : need.value-returns-in-Node
 value-returns-in-Node t c =
     let a = c .in-Node .ensures tt in
-    let m = moved-then (c .body .top) (c .body .top) (c .body .store) (c .value-left .last .store) (c .value-right .last .store) (c .value-left .ensures .moved) (c .value-right .ensures .moved) (omega arith) in
-    record { moved = course-moved (c .args .text .now .bytes .now) (c .args .store .now) (c .args .at) (c .args .base) (c .args .top) (c .args .depth) (c .args .inside) (c .body .store) (c .body .at) (c .body .base) (c .body .top) (c .body .depth) (c .body .inside) (c .body .inv) (c .make .last .self) (moved-then (c .body .top) (c .body .top) (c .body .store) (c .value-right .last .store) (c .make .last .self) m (c .make .ensures .moved (c .body .top)) (omega arith)); there = c .make .ensures .there; says = course-says (c .args .text .now .bytes .now) (c .args .store .now) (c .args .at) (c .args .base) (c .args .top) (c .args .depth) (c .args .inside) (c .body .store) (c .body .at) (c .body .base) (c .body .top) (c .body .depth) (c .body .inside) (c .body .inv) _ (path-made (c .args .text .now .bytes .now) (c .body .store) (c .body .at) (c .body .base) (c .body .top) (c .body .depth) (c .body .inside) (c .body .inv .ready) (c .value-left .last .store) (c .value-left .result) (c .end-next .result) (c .value-left .ensures .moved) (c .if-store-ne-GOING .left) (c .value-left .ensures .says) (c .end-next .ensures) (c .value-right .last .store) (c .make .last .self) (c .value-right .result) (c .make .result) a (c .value-left .ensures .there) (c .value-right .ensures .moved) (c .if-store-ne-GOING-2 .left) (c .value-right .ensures .says) (c .make .ensures .comes)) }
+    let m = moved-then (c .body .top) (c .body .top) (c .body .store) (c .operand-left .last .store) (c .operand-right .last .store) (c .operand-left .ensures .moved) (c .operand-right .ensures .moved) (omega arith) in
+    record { moved = course-moved (c .args .text .now .bytes .now) (c .args .store .now) (c .args .at) (c .args .base) (c .args .top) (c .args .depth) (c .args .inside) (c .body .store) (c .body .at) (c .body .base) (c .body .top) (c .body .depth) (c .body .inside) (c .body .inv) (c .make .last .self) (moved-then (c .body .top) (c .body .top) (c .body .store) (c .operand-right .last .store) (c .make .last .self) m (c .make .ensures .moved (c .body .top)) (omega arith)); there = c .make .ensures .there; says = course-says (c .args .text .now .bytes .now) (c .args .store .now) (c .args .at) (c .args .base) (c .args .top) (c .args .depth) (c .args .inside) (c .body .store) (c .body .at) (c .body .base) (c .body .top) (c .body .depth) (c .body .inside) (c .body .inv) _ (path-made (c .args .text .now .bytes .now) (c .body .store) (c .body .at) (c .body .base) (c .body .top) (c .body .depth) (c .body .inside) (c .body .inv .ready) (c .operand-left .last .store) (c .operand-left .result) (c .end-next .result) (c .operand-left .ensures .moved) (c .if-store-ne-GOING .left) (c .operand-left .ensures .says) (c .end-next .ensures) (c .operand-right .last .store) (c .make .last .self) (c .operand-right .result) (c .make .result) a (c .operand-left .ensures .there) (c .operand-right .ensures .moved) (c .if-store-ne-GOING-2 .left) (c .operand-right .ensures .says) (c .make .ensures .comes)) }
 
 pub value-variable-whole-requires : need.value-variable-whole-requires
 value-variable-whole-requires t c κs =
@@ -189,17 +233,17 @@ value-body-again-in-Parts t c =
     let l = c .end-at .ensures .after in
     course-up (c .args .text .now .bytes .now) (c .args .store .now) (c .args .at) (c .args .base) (c .args .top) (c .args .depth) (c .args .inside) (c .body .store) (c .body .at) (c .body .base) (c .body .top) (c .body .depth) (c .body .inside) (c .body .inv) (c .keep-parts .last .self) (c .end-at .result) (c .body .top + 2) (held .ready) (wide-two (c .args .text .now .bytes .now) (length (c .body .store .frames .now)) (length (c .keep-parts .last .self .frames .now)) (c .body .at) (c .body .base) (c .body .top) (c .body .depth) (c .body .inv .wide) (held .moved .words) (c .end-at .result) (omega arith)) (held .moved) (omega arith) p
 
-pub value-value-bound-requires : need.value-value-bound-requires
-value-value-bound-requires t c κs =
+pub value-operand-bound-requires : need.value-operand-bound-requires
+value-operand-bound-requires t c κs =
     let h = course-stands (c .args .text .now .bytes .now) (c .args .store .now) (c .args .at) (c .args .base) (c .args .top) (c .args .depth) (c .args .inside) (c .body .store) (c .body .at) (c .body .base) (c .body .top) (c .body .depth) (c .body .inside) (c .body .inv) (c .pre .stands) in
     let a = c .in-Bind .ensures tt in
     let p = path-value (c .args .text .now .bytes .now) (c .body .store) (c .body .at) (c .body .base) (c .body .top) (c .body .depth) (c .body .inside) a in
-    (subst (λ (n : ℕ). cost-of (c .args .text .now) (task (c .body .store) (c .body .at + 1) (c .body .base) (c .body .top) (c .body .depth) true) < n) (c .measured) (course-falls (c .args .text .now) (c .args .store .now) (c .args .at) (c .args .base) (c .args .top) (c .args .depth) (c .args .inside) (c .body .store) (c .body .at) (c .body .base) (c .body .top) (c .body .depth) (c .body .inside) (c .pre .stands) (c .body .inv) (task (c .body .store) (c .body .at + 1) (c .body .base) (c .body .top) (c .body .depth) true) p), (c .body .inv .ready, (wide-part (c .args .text .now .bytes .now) (length (c .body .store .frames .now)) (length (c .body .store .frames .now)) (c .body .at) (c .body .base) (c .body .top) (c .body .depth) (c .body .inv .wide) refl (c .body .at + 1) (omega arith), within-stands (c .args .text .now .bytes .now) (task (c .body .store) (c .body .at + 1) (c .body .base) (c .body .top) (c .body .depth) true) (task (c .body .store) (c .body .at) (c .body .base) (c .body .top) (c .body .depth) (c .body .inside)) p h)))
+    (falls-odd (cost-of (c .args .text .now) (task (c .body .store) (c .body .at + 1) (c .body .base) (c .body .top) (c .body .depth) true)) (cost-of (c .args .text .now) (task (c .args .store .now) (c .args .at) (c .args .base) (c .args .top) (c .args .depth) (c .args .inside))) t (course-falls (c .args .text .now) (c .args .store .now) (c .args .at) (c .args .base) (c .args .top) (c .args .depth) (c .args .inside) (c .body .store) (c .body .at) (c .body .base) (c .body .top) (c .body .depth) (c .body .inside) (c .pre .stands) (c .body .inv) (task (c .body .store) (c .body .at + 1) (c .body .base) (c .body .top) (c .body .depth) true) p) (c .measured), (c .body .inv .ready, (wide-part (c .args .text .now .bytes .now) (length (c .body .store .frames .now)) (length (c .body .store .frames .now)) (c .body .at) (c .body .base) (c .body .top) (c .body .depth) (c .body .inv .wide) refl (c .body .at + 1) (omega arith), within-stands (c .args .text .now .bytes .now) (task (c .body .store) (c .body .at + 1) (c .body .base) (c .body .top) (c .body .depth) true) (task (c .body .store) (c .body .at) (c .body .base) (c .body .top) (c .body .depth) (c .body .inside)) p h)))
 
 pub value-returns-then-store-ne-GOING-3 : need.value-returns-then-store-ne-GOING-3
 value-returns-then-store-ne-GOING-3 t c =
     let a = c .in-Bind .ensures tt in
-    record { moved = course-moved (c .args .text .now .bytes .now) (c .args .store .now) (c .args .at) (c .args .base) (c .args .top) (c .args .depth) (c .args .inside) (c .body .store) (c .body .at) (c .body .base) (c .body .top) (c .body .depth) (c .body .inside) (c .body .inv) (c .value-bound .last .store) (c .value-bound .ensures .moved); there = omega arith; says = course-says (c .args .text .now .bytes .now) (c .args .store .now) (c .args .at) (c .args .base) (c .args .top) (c .args .depth) (c .args .inside) (c .body .store) (c .body .at) (c .body .base) (c .body .top) (c .body .depth) (c .body .inside) (c .body .inv) _ (path-value-stops (c .args .text .now .bytes .now) (c .body .store) (c .body .at) (c .body .base) (c .body .top) (c .body .depth) (c .body .inside) (c .value-bound .last .store) (c .value-bound .result) a (c .if-store-ne-GOING-3 .taken) (c .value-bound .ensures .says)) }
+    record { moved = course-moved (c .args .text .now .bytes .now) (c .args .store .now) (c .args .at) (c .args .base) (c .args .top) (c .args .depth) (c .args .inside) (c .body .store) (c .body .at) (c .body .base) (c .body .top) (c .body .depth) (c .body .inside) (c .body .inv) (c .operand-bound .last .store) (c .operand-bound .ensures .moved); there = omega arith; says = course-says (c .args .text .now .bytes .now) (c .args .store .now) (c .args .at) (c .args .base) (c .args .top) (c .args .depth) (c .args .inside) (c .body .store) (c .body .at) (c .body .base) (c .body .top) (c .body .depth) (c .body .inside) (c .body .inv) _ (path-value-stops (c .args .text .now .bytes .now) (c .body .store) (c .body .at) (c .body .base) (c .body .top) (c .body .depth) (c .body .inside) (c .operand-bound .last .store) (c .operand-bound .result) a (c .if-store-ne-GOING-3 .taken) (c .operand-bound .ensures .says)) }
 
 pub value-end-at-requires-in-Bind : need.value-end-at-requires-in-Bind
 value-end-at-requires-in-Bind t c κs =
@@ -211,29 +255,29 @@ pub value-body-less-in-Bind : need.value-body-less-in-Bind
 value-body-less-in-Bind t c =
     let h = course-stands (c .args .text .now .bytes .now) (c .args .store .now) (c .args .at) (c .args .base) (c .args .top) (c .args .depth) (c .args .inside) (c .body .store) (c .body .at) (c .body .base) (c .body .top) (c .body .depth) (c .body .inside) (c .body .inv) (c .pre .stands) in
     let a = c .in-Bind .ensures tt in
-    let m = c .value-bound .ensures .moved in
-    let r1 = still (c .body .store) (c .value-bound .last .store) (c .body .base) (c .body .top) (c .body .inv .ready) m (c .if-store-ne-GOING-3 .left) in
-    let held = c .keep .ensures (c .body .base) r1 (c .value-bound .ensures .there) in
-    let p = path-bound (c .args .text .now .bytes .now) (c .body .store) (c .body .at) (c .body .base) (c .body .top) (c .body .depth) (c .body .inside) (c .body .inv .ready) (c .value-bound .last .store) (c .value-bound .result) (c .end-at-in-Bind .result) m (c .if-store-ne-GOING-3 .left) (c .value-bound .ensures .says) (c .end-at-in-Bind .ensures) (c .keep .last .self) a held in
+    let m = c .operand-bound .ensures .moved in
+    let r1 = still (c .body .store) (c .operand-bound .last .store) (c .body .base) (c .body .top) (c .body .inv .ready) m (c .if-store-ne-GOING-3 .left) in
+    let held = c .keep .ensures (c .body .base) r1 (c .operand-bound .ensures .there) in
+    let p = path-bound (c .args .text .now .bytes .now) (c .body .store) (c .body .at) (c .body .base) (c .body .top) (c .body .depth) (c .body .inside) (c .body .inv .ready) (c .operand-bound .last .store) (c .operand-bound .result) (c .end-at-in-Bind .result) m (c .if-store-ne-GOING-3 .left) (c .operand-bound .ensures .says) (c .end-at-in-Bind .ensures) (c .keep .last .self) a held in
     step-falls (c .args .text .now) (c .body .store) (c .body .at) (c .body .base) (c .body .top) (c .body .depth) (c .body .inside) (c .keep .last .self) (c .end-at-in-Bind .result) (c .body .base) (c .body .top + 1) (c .body .depth) (c .body .inside) h p
 
 pub value-body-again-in-Bind : need.value-body-again-in-Bind
 value-body-again-in-Bind t c =
     let h = course-stands (c .args .text .now .bytes .now) (c .args .store .now) (c .args .at) (c .args .base) (c .args .top) (c .args .depth) (c .args .inside) (c .body .store) (c .body .at) (c .body .base) (c .body .top) (c .body .depth) (c .body .inside) (c .body .inv) (c .pre .stands) in
     let a = c .in-Bind .ensures tt in
-    let m = c .value-bound .ensures .moved in
-    let r1 = still (c .body .store) (c .value-bound .last .store) (c .body .base) (c .body .top) (c .body .inv .ready) m (c .if-store-ne-GOING-3 .left) in
-    let held = c .keep .ensures (c .body .base) r1 (c .value-bound .ensures .there) in
-    let p = path-bound (c .args .text .now .bytes .now) (c .body .store) (c .body .at) (c .body .base) (c .body .top) (c .body .depth) (c .body .inside) (c .body .inv .ready) (c .value-bound .last .store) (c .value-bound .result) (c .end-at-in-Bind .result) m (c .if-store-ne-GOING-3 .left) (c .value-bound .ensures .says) (c .end-at-in-Bind .ensures) (c .keep .last .self) a held in
+    let m = c .operand-bound .ensures .moved in
+    let r1 = still (c .body .store) (c .operand-bound .last .store) (c .body .base) (c .body .top) (c .body .inv .ready) m (c .if-store-ne-GOING-3 .left) in
+    let held = c .keep .ensures (c .body .base) r1 (c .operand-bound .ensures .there) in
+    let p = path-bound (c .args .text .now .bytes .now) (c .body .store) (c .body .at) (c .body .base) (c .body .top) (c .body .depth) (c .body .inside) (c .body .inv .ready) (c .operand-bound .last .store) (c .operand-bound .result) (c .end-at-in-Bind .result) m (c .if-store-ne-GOING-3 .left) (c .operand-bound .ensures .says) (c .end-at-in-Bind .ensures) (c .keep .last .self) a held in
     let l = c .end-at-in-Bind .ensures .after in
-    course-up (c .args .text .now .bytes .now) (c .args .store .now) (c .args .at) (c .args .base) (c .args .top) (c .args .depth) (c .args .inside) (c .body .store) (c .body .at) (c .body .base) (c .body .top) (c .body .depth) (c .body .inside) (c .body .inv) (c .keep .last .self) (c .end-at-in-Bind .result) (c .body .top + 1) (held .ready) (wide-one (c .args .text .now .bytes .now) (length (c .body .store .frames .now)) (length (c .keep .last .self .frames .now)) (c .body .at) (c .body .base) (c .body .top) (c .body .depth) (c .body .inv .wide) (held .moved .words ∙ m .words) (c .end-at-in-Bind .result) (omega arith)) (moved-then (c .body .top) (c .body .top) (c .body .store) (c .value-bound .last .store) (c .keep .last .self) m (held .moved) (omega arith)) (omega arith) p
+    course-up (c .args .text .now .bytes .now) (c .args .store .now) (c .args .at) (c .args .base) (c .args .top) (c .args .depth) (c .args .inside) (c .body .store) (c .body .at) (c .body .base) (c .body .top) (c .body .depth) (c .body .inside) (c .body .inv) (c .keep .last .self) (c .end-at-in-Bind .result) (c .body .top + 1) (held .ready) (wide-one (c .args .text .now .bytes .now) (length (c .body .store .frames .now)) (length (c .keep .last .self .frames .now)) (c .body .at) (c .body .base) (c .body .top) (c .body .depth) (c .body .inv .wide) (held .moved .words ∙ m .words) (c .end-at-in-Bind .result) (omega arith)) (moved-then (c .body .top) (c .body .top) (c .body .store) (c .operand-bound .last .store) (c .keep .last .self) m (held .moved) (omega arith)) (omega arith) p
 
 pub value-arguments-given-requires : need.value-arguments-given-requires
 value-arguments-given-requires t c κs =
     let h = course-stands (c .args .text .now .bytes .now) (c .args .store .now) (c .args .at) (c .args .base) (c .args .top) (c .args .depth) (c .args .inside) (c .body .store) (c .body .at) (c .body .base) (c .body .top) (c .body .depth) (c .body .inside) (c .body .inv) (c .pre .stands) in
     let a = c .in-Call .ensures tt in
     let p = path-args (c .args .text .now .bytes .now) (c .body .store) (c .body .at) (c .body .base) (c .body .top) (c .body .depth) (c .body .inside) (c .in-Call .f) (c .in-Call .n) a in
-    (subst (λ (n : ℕ). cost-of (c .args .text .now) (tasks (c .body .store) (c .body .at + 3) (c .body .base) (c .body .top) (c .body .depth) (c .in-Call .n)) < n) (c .measured) (course-falls (c .args .text .now) (c .args .store .now) (c .args .at) (c .args .base) (c .args .top) (c .args .depth) (c .args .inside) (c .body .store) (c .body .at) (c .body .base) (c .body .top) (c .body .depth) (c .body .inside) (c .pre .stands) (c .body .inv) (tasks (c .body .store) (c .body .at + 3) (c .body .base) (c .body .top) (c .body .depth) (c .in-Call .n)) p), (few-given (c .args .text .now) (c .body .store) (c .body .at) (c .body .base) (c .body .top) (c .body .depth) (c .body .inside) h (c .in-Call .f) (c .in-Call .n) a, (c .body .inv .ready, (wide-part (c .args .text .now .bytes .now) (length (c .body .store .frames .now)) (length (c .body .store .frames .now)) (c .body .at) (c .body .base) (c .body .top) (c .body .depth) (c .body .inv .wide) refl (c .body .at + 3) (omega arith), within-stands (c .args .text .now .bytes .now) (tasks (c .body .store) (c .body .at + 3) (c .body .base) (c .body .top) (c .body .depth) (c .in-Call .n)) (task (c .body .store) (c .body .at) (c .body .base) (c .body .top) (c .body .depth) (c .body .inside)) p h))))
+    (falls-even (cost-of (c .args .text .now) (tasks (c .body .store) (c .body .at + 3) (c .body .base) (c .body .top) (c .body .depth) (c .in-Call .n))) (cost-of (c .args .text .now) (task (c .args .store .now) (c .args .at) (c .args .base) (c .args .top) (c .args .depth) (c .args .inside))) t (course-falls (c .args .text .now) (c .args .store .now) (c .args .at) (c .args .base) (c .args .top) (c .args .depth) (c .args .inside) (c .body .store) (c .body .at) (c .body .base) (c .body .top) (c .body .depth) (c .body .inside) (c .pre .stands) (c .body .inv) (tasks (c .body .store) (c .body .at + 3) (c .body .base) (c .body .top) (c .body .depth) (c .in-Call .n)) p) (c .measured), (few-given (c .args .text .now) (c .body .store) (c .body .at) (c .body .base) (c .body .top) (c .body .depth) (c .body .inside) h (c .in-Call .f) (c .in-Call .n) a, (c .body .inv .ready, (wide-part (c .args .text .now .bytes .now) (length (c .body .store .frames .now)) (length (c .body .store .frames .now)) (c .body .at) (c .body .base) (c .body .top) (c .body .depth) (c .body .inv .wide) refl (c .body .at + 3) (omega arith), within-stands (c .args .text .now .bytes .now) (tasks (c .body .store) (c .body .at + 3) (c .body .base) (c .body .top) (c .body .depth) (c .in-Call .n)) (task (c .body .store) (c .body .at) (c .body .base) (c .body .top) (c .body .depth) (c .body .inside)) p h))))
 
 pub value-returns-then-store-ne-GOING-4 : need.value-returns-then-store-ne-GOING-4
 value-returns-then-store-ne-GOING-4 t c =
@@ -252,8 +296,9 @@ value-give-requires t c κs =
     let h = course-stands (c .args .text .now .bytes .now) (c .args .store .now) (c .args .at) (c .args .base) (c .args .top) (c .args .depth) (c .args .inside) (c .body .store) (c .body .at) (c .body .base) (c .body .top) (c .body .depth) (c .body .inside) (c .body .inv) (c .pre .stands) in
     let a = c .in-Call .ensures tt in
     let e : Enters (c .body .base) (c .body .top) (c .body .depth) (c .body .inside) (c .if-inside .base) (c .if-inside .depth) (c .if-inside .inside) = elim (c .if-inside .came) [
-      value-then-inside·else-depth-eq0 w ↦ opened (c .body .base) (c .body .top) (c .body .depth) (c .body .inside) (c .if-inside .base) (c .if-inside .depth) (c .if-inside .inside) (w .if-inside .taken) (w .inside-is) (w .base-is) (let z = w .if-depth-eq0 .left in let y = w .depth-is in omega arith)
-      | value-else-inside w ↦ replaced (c .body .base) (c .body .top) (c .body .depth) (c .body .inside) (c .if-inside .base) (c .if-inside .depth) (c .if-inside .inside) (w .if-inside .left) (w .inside-is) (w .base-is) (w .depth-is) ] in
+      | value-then-inside·else-depth-eq0 w ↦ opened (c .body .base) (c .body .top) (c .body .depth) (c .body .inside) (c .if-inside .base) (c .if-inside .depth) (c .if-inside .inside) (w .if-inside .taken) (w .inside-is) (w .base-is) (let z = w .if-depth-eq0 .left in let y = w .depth-is in omega arith)
+      | value-else-inside w ↦ replaced (c .body .base) (c .body .top) (c .body .depth) (c .body .inside) (c .if-inside .base) (c .if-inside .depth) (c .if-inside .inside) (w .if-inside .left) (w .inside-is) (w .base-is) (w .depth-is)
+    ] in
     let few = few-given (c .args .text .now) (c .body .store) (c .body .at) (c .body .base) (c .body .top) (c .body .depth) (c .body .inside) h (c .in-Call .f) (c .in-Call .n) a in
     record { few = few; within = enters-words (c .args .text .now) (c .body .store) (c .body .at) (c .body .base) (c .body .top) (c .body .depth) (c .body .inside) (c .if-inside .base) (c .if-inside .depth) (c .if-inside .inside) h (c .body .inv .ready) (c .body .inv .wide) (length (c .arguments-given .last .store .frames .now)) (c .arguments-given .ensures .moved .words) (c .in-Call .n) few e }
 
@@ -268,8 +313,9 @@ value-body-less t c =
     let h = course-stands (c .args .text .now .bytes .now) (c .args .store .now) (c .args .at) (c .args .base) (c .args .top) (c .args .depth) (c .args .inside) (c .body .store) (c .body .at) (c .body .base) (c .body .top) (c .body .depth) (c .body .inside) (c .body .inv) (c .pre .stands) in
     let a = c .in-Call .ensures tt in
     let e : Enters (c .body .base) (c .body .top) (c .body .depth) (c .body .inside) (c .if-inside .base) (c .if-inside .depth) (c .if-inside .inside) = elim (c .if-inside .came) [
-      value-then-inside·else-depth-eq0 w ↦ opened (c .body .base) (c .body .top) (c .body .depth) (c .body .inside) (c .if-inside .base) (c .if-inside .depth) (c .if-inside .inside) (w .if-inside .taken) (w .inside-is) (w .base-is) (let z = w .if-depth-eq0 .left in let y = w .depth-is in omega arith)
-      | value-else-inside w ↦ replaced (c .body .base) (c .body .top) (c .body .depth) (c .body .inside) (c .if-inside .base) (c .if-inside .depth) (c .if-inside .inside) (w .if-inside .left) (w .inside-is) (w .base-is) (w .depth-is) ] in
+      | value-then-inside·else-depth-eq0 w ↦ opened (c .body .base) (c .body .top) (c .body .depth) (c .body .inside) (c .if-inside .base) (c .if-inside .depth) (c .if-inside .inside) (w .if-inside .taken) (w .inside-is) (w .base-is) (let z = w .if-depth-eq0 .left in let y = w .depth-is in omega arith)
+      | value-else-inside w ↦ replaced (c .body .base) (c .body .top) (c .body .depth) (c .body .inside) (c .if-inside .base) (c .if-inside .depth) (c .if-inside .inside) (w .if-inside .left) (w .inside-is) (w .base-is) (w .depth-is)
+    ] in
     let held = c .give .ensures (c .arguments-given .ensures .moved .well) (c .if-store-ne-GOING-4 .left) (c .arguments-given .ensures .there) in
     let p = enters-leads (c .args .text .now .bytes .now) (c .body .store) (c .body .at) (c .body .base) (c .body .top) (c .body .depth) (c .body .inside) (c .in-Call .f) (c .in-Call .n) a (c .arguments-given .last .store) (c .arguments-given .result .0) (c .arguments-given .ensures .say) (c .if-store-ne-GOING-4 .left) (c .give .last .self) (c .body-at .result) (c .body-at .ensures .there) (c .if-inside .base) (c .if-inside .depth) (c .if-inside .inside) e held in
     step-falls (c .args .text .now) (c .body .store) (c .body .at) (c .body .base) (c .body .top) (c .body .depth) (c .body .inside) (c .give .last .self) (c .body-at .result) (c .if-inside .base) (c .if-inside .base + c .in-Call .n) (c .if-inside .depth) (c .if-inside .inside) h p
@@ -279,8 +325,9 @@ value-body-again t c =
     let h = course-stands (c .args .text .now .bytes .now) (c .args .store .now) (c .args .at) (c .args .base) (c .args .top) (c .args .depth) (c .args .inside) (c .body .store) (c .body .at) (c .body .base) (c .body .top) (c .body .depth) (c .body .inside) (c .body .inv) (c .pre .stands) in
     let a = c .in-Call .ensures tt in
     let e : Enters (c .body .base) (c .body .top) (c .body .depth) (c .body .inside) (c .if-inside .base) (c .if-inside .depth) (c .if-inside .inside) = elim (c .if-inside .came) [
-      value-then-inside·else-depth-eq0 w ↦ opened (c .body .base) (c .body .top) (c .body .depth) (c .body .inside) (c .if-inside .base) (c .if-inside .depth) (c .if-inside .inside) (w .if-inside .taken) (w .inside-is) (w .base-is) (let z = w .if-depth-eq0 .left in let y = w .depth-is in omega arith)
-      | value-else-inside w ↦ replaced (c .body .base) (c .body .top) (c .body .depth) (c .body .inside) (c .if-inside .base) (c .if-inside .depth) (c .if-inside .inside) (w .if-inside .left) (w .inside-is) (w .base-is) (w .depth-is) ] in
+      | value-then-inside·else-depth-eq0 w ↦ opened (c .body .base) (c .body .top) (c .body .depth) (c .body .inside) (c .if-inside .base) (c .if-inside .depth) (c .if-inside .inside) (w .if-inside .taken) (w .inside-is) (w .base-is) (let z = w .if-depth-eq0 .left in let y = w .depth-is in omega arith)
+      | value-else-inside w ↦ replaced (c .body .base) (c .body .top) (c .body .depth) (c .body .inside) (c .if-inside .base) (c .if-inside .depth) (c .if-inside .inside) (w .if-inside .left) (w .inside-is) (w .base-is) (w .depth-is)
+    ] in
     let held = c .give .ensures (c .arguments-given .ensures .moved .well) (c .if-store-ne-GOING-4 .left) (c .arguments-given .ensures .there) in
     let p = enters-leads (c .args .text .now .bytes .now) (c .body .store) (c .body .at) (c .body .base) (c .body .top) (c .body .depth) (c .body .inside) (c .in-Call .f) (c .in-Call .n) a (c .arguments-given .last .store) (c .arguments-given .result .0) (c .arguments-given .ensures .say) (c .if-store-ne-GOING-4 .left) (c .give .last .self) (c .body-at .result) (c .body-at .ensures .there) (c .if-inside .base) (c .if-inside .depth) (c .if-inside .inside) e held in
     let wide = enters-wide (c .args .text .now) (c .body .store) (c .body .at) (c .body .base) (c .body .top) (c .body .depth) (c .body .inside) (c .if-inside .base) (c .if-inside .depth) (c .if-inside .inside) h (c .body .inv .ready) (c .body .inv .wide) (length (c .give .last .self .frames .now)) (held .moved .words ∙ c .arguments-given .ensures .moved .words) (c .body-at .result) (c .in-Call .n) (few-given (c .args .text .now) (c .body .store) (c .body .at) (c .body .base) (c .body .top) (c .body .depth) (c .body .inside) h (c .in-Call .f) (c .in-Call .n) a) (c .body-at .ensures .after) e in

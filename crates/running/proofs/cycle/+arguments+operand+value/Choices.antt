@@ -1,26 +1,26 @@
--- The measure is the number of rules of the one derivation, by the theorem that there is one.
-use Prim.Native.Nat.{_-_, _≤_}
+-- The measure is the number of rules of the one derivation, by the theorem that there is one; twice that, since an operand hands its own task on.
+use Prim.Native.Nat.{_+_, _*_, _≤_}
 use lib.ListN.{length}
-use mathlib.Core.Path.{_≡_}
+use mathlib.Core.Bool.{true}
 use Rattle.tasks.specs.Stores.{Wide, task, tasks}
 use Rattle.tasks.proofs.Calling.{Worked}
 use Rattle.tasks.proofs.Courses.{Course, cost-of}
-use Rattle.running.proofs.cycle.+arguments+value.Given as given
+use Rattle.running.proofs.cycle.+arguments+operand+value.Given as given
 
 abbrev pub μ-arguments : given.MeasureT-arguments
-μ-arguments l = cost-of (l .text .now) (tasks (l .store .now) (l .at) (l .base) (l .top) (l .depth) (l .n))
+μ-arguments l = 2 * cost-of (l .text .now) (tasks (l .store .now) (l .at) (l .base) (l .top) (l .depth) (l .n))
+
+abbrev pub μ-operand : given.MeasureT-operand
+μ-operand l = 2 * cost-of (l .text .now) (task (l .store .now) (l .at) (l .base) (l .top) (l .depth) true) + 1
 
 abbrev pub μ-value : given.MeasureT-value
-μ-value l = cost-of (l .text .now) (task (l .store .now) (l .at) (l .base) (l .top) (l .depth) (l .inside))
+μ-value l = 2 * cost-of (l .text .now) (task (l .store .now) (l .at) (l .base) (l .top) (l .depth) (l .inside))
 
 abbrev pub Inv-arguments-loop-j : given.InvT-arguments-loop-j
 Inv-arguments-loop-j l =
     (l .j ≤ l .n)
     × Wide (l .text .bytes .now) (length (l .store .frames .now)) (l .at) (l .base) (l .top) (l .depth)
     × Worked (l .text .bytes .now) (l .entry .store) (l .entry .at) (l .base) (l .top) (l .depth) (l .n) (l .store) (l .at) (l .j) (l .given .0)
-
-abbrev pub μ-arguments-loop-j : given.MeasureT-arguments-loop-j
-μ-arguments-loop-j l = l .n - l .j
 
 abbrev pub Inv-value-body : given.InvT-value-body
 Inv-value-body l =
