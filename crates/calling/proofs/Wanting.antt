@@ -15,7 +15,7 @@ use Rattle.lang.specs.Bytes.{Program, takes}
 use Rattle.lang.proofs.Reading.{one-program, fine-parts, few-args}
 use Rattle.reading.specs.Tables.{Tables}
 use Rattle.reading.proofs.Places.{table-function}
-use Rattle.tasks.specs.Texts.{Taking}
+use Rattle.tasks.specs.Texts.{Ending, Taking}
 use Rattle.calling.specs.Calling.{Judged, Wants}
 
 pub same-program : (s ends starts : List ℕ) (k : ℕ) (j : Judged s ends starts k) (p : Prog) → Program s p → j .prog ≡ p
@@ -46,3 +46,10 @@ taking-below s ends starts k f n j t =
     let a = nth-below (j .prog) f (x .1) in
     let b = fine-parts s (j .prog) (j .tables .program) .1 in
     omega arith
+
+-- what a text is made of
+pub ending : (s ends starts : List ℕ) (k : ℕ) → Judged s ends starts k → length s ≤ length ends → 64 ≤ length starts → Ending s ends starts
+ending s ends starts k j a b =
+    let m = j .tables .found .number in
+    let f = fine-parts s (j .prog) (j .tables .program) .1 in
+    record { prog = j .prog; why = j .why; tables = subst (λ (i : ℕ). Tables s (j .prog) ends starts i) (sym m) (j .tables); all-ends = a; all-starts = omega arith }

@@ -90,8 +90,10 @@ fn call_with(
 }
 
 // Calls a function of a script that was judged, with the trees whose bytes are the arguments, so many further calls open inside at most and so much room for nodes.
-pub fn call(
-    text: &Text<'_>,
+pub fn call<'a>(
+    program: &'a [u8],
+    ends: &'a [u32],
+    starts: &'a [u32],
     functions: usize,
     function: usize,
     args: &[u8],
@@ -101,16 +103,19 @@ pub fn call(
     memory: &mut [u32],
     frames: &mut [u32],
 ) -> Called
-    requires judged { ⌜ Judged (now (now text .bytes)) (now (now text .ends)) (now (now text .starts)) functions ⌝ }
-    requires ends_room { ⌜ length (now (now text .bytes)) ≤ length (now (now text .ends)) ⌝ }
-    requires starts_room { ⌜ 64 ≤ length (now (now text .starts)) ⌝ }
+    requires judged { ⌜ Judged (now program) (now ends) (now starts) functions ⌝ }
+    requires ends_room { ⌜ length (now program) ≤ length (now ends) ⌝ }
+    requires starts_room { ⌜ 64 ≤ length (now starts) ⌝ }
     requires numbered { ⌜ length (now args) + room < 2 ^ 32 ⌝ }
     requires memory { ⌜ 4 * (length (now args) + room) ≤ length (now memory) ⌝ }
     requires frames { ⌜ 4096 * (depth + 1) ≤ length (now frames) ⌝ }
-    ensures { λ r. ⌜ CalledSays (now (now (text .entry) .bytes)) function (now (args .entry)) depth room (now (out .entry)) (now (out .exit)) r ⌝ }
+    ensures { λ r. ⌜ CalledSays (now (program .entry)) function (now (args .entry)) depth room (now (out .entry)) (now (out .exit)) r ⌝ }
 {
-    match wanted(text.bytes, text.ends, text.starts, functions, function) {
-        Some(n) => call_with(text, function as u8, n, args, depth, room, out, memory, frames),
+    match wanted(program, ends, starts, functions, function) {
+        Some(n) => {
+            let text = Text::new(program, ends, starts);
+            call_with(&text, function as u8, n, args, depth, room, out, memory, frames)
+        }
         None => Called::BadCall,
     }
 }

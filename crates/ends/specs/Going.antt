@@ -13,6 +13,8 @@ use Rattle.lang.specs.Bytes.{Program, bytesT, bytesTs}
 use Rattle.ends.specs.declared.Judged.the-variants.{NoReason, NoProgram, Many}
 use Rattle.ends.specs.declared.Ran.{Ran}
 use Rattle.ends.specs.declared.Ran.the-variants.{Value, Full, Deep, Unproved, BadCall, OutFull, Small}
+use Rattle.calling.specs.declared.Called.{Called}
+use Rattle.calling.specs.declared.Called.the-variants as called
 use Rattle.ends.specs.Judging.{JudgedSays, floor, Theorems}
 
 -- the bytes s are the program p, which has the reason and at most n ways
@@ -48,3 +50,17 @@ pub record GoPost (s : List ℕ) (n f : ℕ) (a : List ℕ) (d r : ℕ) (o o′ 
   pub says : GoSays s n f a d r o o′ x
   pub theorems : Theorems
   pub small : TooSmall s n a d r w ↔ (x ≡ Small)
+
+-- a call's outcome as an answer; the room left is no more than there was, which is a word
+abbrev pub answerOf : Called → Ran
+answerOf (called.Value k q) = Value k q
+answerOf called.Full = Full
+answerOf called.Deep = Deep
+answerOf called.BadCall = BadCall
+answerOf called.OutFull = OutFull
+abbrev pub Left : Called → Type 0
+Left (called.Value k q) = q < 2 ^ 32
+Left called.Full = Unit {0}
+Left called.Deep = Unit {0}
+Left called.BadCall = Unit {0}
+Left called.OutFull = Unit {0}

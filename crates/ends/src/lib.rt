@@ -1,7 +1,10 @@
 // The two public calls, and what they answer.
+mod exported;
 mod floors;
 mod going;
 mod judging;
+pub use exported::pegsienna_go;
+pub use exported::pegsienna_judge;
 pub use floors::pegsienna_go_words;
 pub use floors::pegsienna_judge_words;
 pub use going::go;
@@ -27,4 +30,13 @@ pub enum Ran {
     BadCall,
     OutFull,
     Small,
+}
+
+// The same for other languages: the answer by its number, the room left and the bytes written.
+#[repr(C)]
+#[derive(Clone, Copy)]
+pub struct RanC {
+    pub answer: u32,
+    pub room: u32,
+    pub bytes: usize,
 }
