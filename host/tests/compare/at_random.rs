@@ -41,7 +41,7 @@ fn case(random: &mut Random) -> Case {
 
 /// So many programs with the reason and ways that go round, of which some turn, without it, with too many ways, and with no way that goes round.
 fn cases() -> Vec<Case> {
-    let mut wanted = [300, 120, 200, 20, 40];
+    let mut wanted = [500, 250, 300, 30, 60];
     let mut random = Random::new(1);
     let mut cases = Vec::new();
     while wanted.iter().any(|&n| n > 0) {
@@ -207,7 +207,7 @@ impl Runs<'_> {
                     rest /= small.len();
                     args.extend(&small[choice]);
                 }
-                let tight = nth < 30 || self.random.percent(5);
+                let tight = nth < 30 || self.random.percent(20);
                 self.one(function, &args, tight);
             }
         }
