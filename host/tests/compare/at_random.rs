@@ -249,6 +249,12 @@ impl Runs<'_> {
         if room > 0 {
             self.compare(call(depth, room - 1), out);
         }
+        // with too little of both, the order in which things are done decides
+        if depth > 0 && room > 0 {
+            self.compare(call(depth - 1, room - 1), out);
+            let (depth, room) = (self.random.below(depth as usize) as u32, self.random.below(room as usize) as u32);
+            self.compare(call(depth, room), out);
+        }
     }
 
     fn compare(&mut self, call: Call<'_>, out: usize) {

@@ -130,3 +130,25 @@ fn the_limits_of_a_program() {
         }
     });
 }
+
+/// With neither depth nor room, what comes first decides: a call inside is deep, a node is full.
+#[test]
+fn from_left_to_right() {
+    let (call, node) = (&[5, 1, 0][..], &[2, 1, 1][..]);
+    let leaf: &[u8] = &[1];
+    let (one, two): (&[u8], &[u8]) = (&[0, 1], &[2, 1]);
+    for (parts, stop) in [
+        (&[&[0, 2], call, node][..], Stop::Deep),
+        (&[&[0, 2], node, call], Stop::Full),
+        (&[&[0, 4], call, node], Stop::Deep),
+        (&[&[0, 4], node, call], Stop::Full),
+        (&[&[0, 5, 2, 2], call, node], Stop::Deep),
+        (&[&[0, 5, 2, 2], node, call], Stop::Full),
+        // a node's own room is taken last, and a call opens last
+        (&[&[0, 2], call, leaf], Stop::Deep),
+        (&[&[0, 2], leaf, &[5, 2, 2], node, leaf], Stop::Full),
+    ] {
+        let script = [parts.concat().as_slice(), one, two].concat();
+        assert_eq!(Script::new(script).call(0, &[], Limits { depth: 0, room: 0 }), Err(stop), "{parts:?}");
+    }
+}
