@@ -40,6 +40,7 @@ wants s ends starts k f n j l h =
 takes-some : (o : opt.Option Fun) (n : ℕ) → T (takes o n) → (g : Fun) × (o ≡ opt.some g)
 takes-some opt.none n t = absurd t
 takes-some (opt.some g) n t = (g, refl)
+
 pub taking-below : (s ends starts : List ℕ) (k f n : ℕ) → Judged s ends starts k → Taking s f n → f < 64
 taking-below s ends starts k f n j t =
     let x = takes-some (nth (j .prog) f) n (t (j .prog) (j .tables .program)) in

@@ -32,9 +32,11 @@ pub record ComesTo (s : List ℕ) (f : ℕ) (a : List ℕ) (d r : ℕ) (o : Outc
   pub args : List Tree
   pub are : bytesTs args ≡ a
   pub calls : (p : Prog) → Program s p → Calls p f args d r o
+
 -- no such function, or not as many trees as it takes
 abbrev pub NoCall : List ℕ → ℕ → List ℕ → Type 0
 NoCall s f a = (p : Prog) (g : Fun) (ts : List Tree) → Program s p → nth p f ≡ opt.some g → bytesTs ts ≡ a → length ts ≡ g .args → ⊥
+
 abbrev pub CalledSays : List ℕ → ℕ → List ℕ → ℕ → ℕ → List ℕ → List ℕ → Called → Type 0
 CalledSays s f a d r o o′ (Value k q) = (t : Tree) × ComesTo s f a d r (val t q) × (k ≡ length (bytesT t)) × (take k o′ ≡ bytesT t) × (drop k o′ ≡ drop k o)
 CalledSays s f a d r o o′ Full = ComesTo s f a d r full × (o′ ≡ o)

@@ -39,7 +39,15 @@ fn wanted(program: &[u8], ends: &[u32], starts: &[u32], functions: usize, f: usi
 }
 
 // Runs a function on trees that are among the nodes, and writes its value.
-fn evaluate(text: &Text<'_>, store: &mut Store<'_>, f: u8, n: usize, depth: usize, stack: &mut [u32], out: &mut [u8]) -> Called
+fn evaluate(
+    text: &Text<'_>,
+    store: &mut Store<'_>,
+    f: u8,
+    n: usize,
+    depth: usize,
+    stack: &mut [u32],
+    out: &mut [u8],
+) -> Called
     requires well { ⌜ Well (now (now store .nodes)) (now store .used) (now store .limit) ⌝ }
     requires going { ⌜ now store .stop ≡ 0 ⌝ }
     requires words { ⌜ 4096 * (depth + 1) ≤ length (now (now store .frames)) ⌝ }
@@ -82,7 +90,13 @@ fn call_with(
     let (stack, _) = rest.split_at_mut(words);
     match read_trees(args, n, nodes, stack) {
         Some(used) => {
-            let mut store = Store { nodes, used, limit: used + room, frames, stop: GOING };
+            let mut store = Store {
+                nodes,
+                used,
+                limit: used + room,
+                frames,
+                stop: GOING,
+            };
             evaluate(text, &mut store, f, n, depth, stack, out)
         }
         None => Called::BadCall,
@@ -114,7 +128,17 @@ pub fn call<'a>(
     match wanted(program, ends, starts, functions, function) {
         Some(n) => {
             let text = Text::new(program, ends, starts);
-            call_with(&text, function as u8, n, args, depth, room, out, memory, frames)
+            call_with(
+                &text,
+                function as u8,
+                n,
+                args,
+                depth,
+                room,
+                out,
+                memory,
+                frames,
+            )
         }
         None => Called::BadCall,
     }

@@ -19,7 +19,9 @@ fn functions(script: &[u8]) -> Option<usize>
 fn programs() -> Result<(), Fail> {
     check_eq(functions(&[]), Some(0)).note("no functions at all")?;
     check_eq(functions(&[0, 1]), Some(1)).note("a leaf")?;
-    check_eq(functions(&[2, 3, 0, 1, 5, 0, 2, 0, 3, 0, 0]), Some(1)).note("arguments that change places")?;
+    check_eq(functions(&[2, 3, 0, 1, 5, 0, 2, 0, 3, 0, 0]), Some(1)).note(
+        "arguments that change places",
+    )?;
     check_eq(functions(&[8, 0, 7]), Some(1)).note("8 arguments, the last of them")?;
     check_eq(functions(&[1, 4, 0, 0, 0, 1]), Some(1)).note("the argument under a bound variable")?;
     check_eq(functions(&[1, 3, 0, 1, 0, 2]), Some(1)).note("the argument under its parts")
@@ -37,7 +39,9 @@ fn no_programs() -> Result<(), Fail> {
     check_eq(functions(&[8, 0, 8]), None).note("one past the arguments")?;
     check_eq(functions(&[1, 4, 0, 0, 0, 2]), None).note("one past a bound variable's view")?;
     check_eq(functions(&[1, 3, 0, 1, 0, 3]), None).note("one past the view of parts")?;
-    check_eq(functions(&[1, 3, 0, 0, 1, 1]), None).note("one past the view where a leaf is taken apart")?;
+    check_eq(functions(&[1, 3, 0, 0, 1, 1]), None).note(
+        "one past the view where a leaf is taken apart",
+    )?;
     check_eq(functions(&[1, 3, 1, 1, 1]), None).note("parts of a variable that is not there")
 }
 
@@ -46,7 +50,9 @@ fn no_calls() -> Result<(), Fail> {
     check_eq(functions(&[1, 5, 0, 0]), None).note("one argument too few")?;
     check_eq(functions(&[1, 5, 0, 2, 1, 1]), None).note("one too many")?;
     check_eq(functions(&[0, 5, 1, 0]), None).note("no such function")?;
-    check_eq(functions(&[0, 5, 1, 0, 1, 0, 0]), None).note("a later function that takes another number")?;
+    check_eq(functions(&[0, 5, 1, 0, 1, 0, 0]), None).note(
+        "a later function that takes another number",
+    )?;
     check_eq(functions(&[0, 5, 1, 0, 0, 1]), Some(2)).note("a later function")
 }
 

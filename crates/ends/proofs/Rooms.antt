@@ -9,6 +9,7 @@ abbrev left : Outcome → ℕ
 left (val t q) = q
 left full = 0
 left deep = 0
+
 abbrev left-all : Outcomes → ℕ
 left-all (vals ts q) = q
 left-all (no-vals o) = left o
@@ -32,6 +33,7 @@ mutual
   room-left (e-call g xs is fits x) = omega (arith, room-left-all xs, room-left x)
   room-left (e-call0 xs) = omega arith
   room-left (e-call1 xs) = room-left-all xs
+
   room-left-all : {p : Prog} {d : ℕ} {ρ : List Tree} {es : Exprs} {r : ℕ} {o : Outcomes} → EvalAll p d ρ es r o → left-all o ≤ r
   room-left-all a-nil = omega arith
   room-left-all (a-cons x xs) = omega (arith, room-left x, room-left-all xs)

@@ -13,6 +13,7 @@ judgedNumber NoReason = 1
 judgedNumber NoProgram = 2
 judgedNumber Many = 3
 judgedNumber Few = 4
+
 -- an answer of `go` as a number, the room left and the bytes written, which are 0 where there is no value
 abbrev pub ranNumbers : Ran → RanC
 ranNumbers (Value k q) = record { answer = 0; room = q; bytes = k }

@@ -22,6 +22,7 @@ pub record Ready (s : List ℕ) (n : ℕ) (p : Prog) : Type 0 where
   pub program : Program s p
   pub reason : Ends-for-a-reason p
   pub ways : (ws : List Way1) × Ways-of p ws × (length ws ≤ n)
+
 -- function f of that program, called with the trees whose bytes are a, comes to the outcome
 pub record Comes (s : List ℕ) (n f : ℕ) (a : List ℕ) (d r : ℕ) (o : Outcome) : Type 0 where
   pub prog : Prog
@@ -43,6 +44,7 @@ GoSays s n f a d r o o′ Small = o′ ≡ o
 -- the work words that a run wants; and nodes are numbered by 32-bit words
 abbrev pub go-floor : List ℕ → ℕ → List ℕ → ℕ → ℕ → ℕ
 go-floor s n a d r = floor s n + (4 * (length a + r) + 4096 * (d + 1))
+
 abbrev pub TooSmall : List ℕ → ℕ → List ℕ → ℕ → ℕ → ℕ → Type 0
 TooSmall s n a d r w = (w < go-floor s n a d r) ⊎ (2 ^ 32 ≤ length a + r)
 
@@ -58,6 +60,7 @@ answerOf called.Full = Full
 answerOf called.Deep = Deep
 answerOf called.BadCall = BadCall
 answerOf called.OutFull = OutFull
+
 abbrev pub Left : Called → Type 0
 Left (called.Value k q) = q < 2 ^ 32
 Left called.Full = Unit {0}

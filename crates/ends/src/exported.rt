@@ -8,14 +8,18 @@ ghost use Rattle.ends.specs.declared.Ran.{Ran as RanT};
 use super::Judged;
 use super::Ran;
 use super::RanC;
-use super::going::go;
-use super::judging::judge;
+use super::go_call::go;
+use super::judge_call::judge;
 
 // An answer without a value.
 fn only(answer: u32) -> RanC
     ensures { λ r. ⌜ (r .answer ≡ answer) × (r .room ≡ 0) × (r .bytes ≡ 0) ⌝ }
 {
-    RanC { answer, room: 0, bytes: 0 }
+    RanC {
+        answer,
+        room: 0,
+        bytes: 0,
+    }
 }
 
 // `judge` for other languages: 0 ends, 1 no reason, 2 no program, 3 many, 4 few.
@@ -47,7 +51,11 @@ pub extern "C" fn pegsienna_go(
     ensures { λ r. ⌜ ((x : RanT) × (r ≡ ranNumbers x) × GoPost (now (program .entry)) ways function (now (args .entry)) depth room (now (out .entry)) (now (out .exit)) (length (now (work .entry))) x) ⌝ }
 {
     match go(program, ways, function, args, depth, room, out, work) {
-        Ran::Value(bytes, left) => RanC { answer: 0, room: left, bytes },
+        Ran::Value(bytes, left) => RanC {
+            answer: 0,
+            room: left,
+            bytes,
+        },
         Ran::Full => only(1),
         Ran::Deep => only(2),
         Ran::Unproved => only(3),

@@ -15,7 +15,7 @@ const WORDS_CALL: usize = 4096;
 const NUMBERS: usize = 0x1_0000_0000;
 
 // Whether there are fewer work words than judging wants; no sum is made that could overflow.
-pub fn too_few(bytes: usize, ways: u32, words: usize) -> bool
+pub(crate) fn too_few(bytes: usize, ways: u32, words: usize) -> bool
     ensures { λ r. ⌜ (words < 16384 + (64 * bytes + 64 * ways)) ↔ (r ≡ true) ⌝ }
 {
     if words < WORDS {
@@ -29,7 +29,14 @@ pub fn too_few(bytes: usize, ways: u32, words: usize) -> bool
 }
 
 // Whether there are fewer work words than a run wants, or more nodes than can be numbered.
-pub fn too_small(bytes: usize, ways: u32, args: usize, depth: u32, room: u32, words: usize) -> bool
+pub(crate) fn too_small(
+    bytes: usize,
+    ways: u32,
+    args: usize,
+    depth: u32,
+    room: u32,
+    words: usize,
+) -> bool
     ensures { λ r. ⌜ ((words < (16384 + (64 * bytes + 64 * ways)) + (4 * (args + room) + 4096 * (depth + 1))) ⊎ (2 ^ 32 ≤ args + room)) ↔ (r ≡ true) ⌝ }
 {
     if args >= NUMBERS {
@@ -51,15 +58,27 @@ pub fn too_small(bytes: usize, ways: u32, args: usize, depth: u32, room: u32, wo
 pub extern "C" fn pegsienna_judge_words(bytes: usize, ways: u32) -> usize
     ensures { λ r. ⌜ r ≡ min (16384 + (64 * bytes + 64 * ways)) (2 ^ 64 - 1) ⌝ }
 {
-    bytes.saturating_mul(WORDS_EACH).saturating_add(WORDS_EACH * ways as usize).saturating_add(WORDS)
+    bytes
+        .saturating_mul(WORDS_EACH)
+        .saturating_add(WORDS_EACH * ways as usize)
+        .saturating_add(WORDS)
 }
 
 // The work words that a run wants: those of judging, four for each byte of the trees and each node of room, and 4,096 for each open call and one more.
 #[unsafe(no_mangle)]
-pub extern "C" fn pegsienna_go_words(bytes: usize, ways: u32, args: usize, depth: u32, room: u32) -> usize
+pub extern "C" fn pegsienna_go_words(
+    bytes: usize,
+    ways: u32,
+    args: usize,
+    depth: u32,
+    room: u32,
+) -> usize
     ensures { λ r. ⌜ r ≡ min ((16384 + (64 * bytes + 64 * ways)) + (4 * (args + room) + 4096 * (depth + 1))) (2 ^ 64 - 1) ⌝ }
 {
-    let nodes = args.saturating_mul(WORDS_NODE).saturating_add(WORDS_NODE * room as usize);
+    let nodes = args.saturating_mul(WORDS_NODE)
+        .saturating_add(WORDS_NODE * room as usize);
     let frames = WORDS_CALL * (depth as usize + 1);
-    pegsienna_judge_words(bytes, ways).saturating_add(nodes).saturating_add(frames)
+    pegsienna_judge_words(bytes, ways)
+        .saturating_add(nodes)
+        .saturating_add(frames)
 }

@@ -1,14 +1,15 @@
 // The two public calls, and what they answer.
 mod exported;
 mod floors;
-mod going;
-mod judging;
+mod go_call;
+mod judge_call;
+
 pub use exported::pegsienna_go;
 pub use exported::pegsienna_judge;
 pub use floors::pegsienna_go_words;
 pub use floors::pegsienna_judge_words;
-pub use going::go;
-pub use judging::judge;
+pub use go_call::go;
+pub use judge_call::judge;
 
 // What is said of a program.
 #[derive(Clone, Copy, Debug, PartialEq)]

@@ -1,11 +1,11 @@
-// Says of a script whether it is a program, and what functions it has.
-ghost use Prim.Native.Nat.{_≤_};
+// Says of a script whether it ends, and how many ways it has.
+ghost use Prim.Native.Nat.{_+_, _*_, _≤_};
 ghost use lib.ListN.{length};
-ghost use Rattle.lang.specs.Program.{Prog};
-ghost use Rattle.reading.specs.Tables.{Tables};
 ghost use Rattle.std.specs.Vec.{made};
-use reading::functions::function_at;
-use reading::program::read_program;
+use ends::Judged;
+use ends::judge;
+use judging::Verdict;
+use judging::find_verdict;
 use std::env;
 use std::error::AnyError;
 use std::fs::File;
@@ -14,6 +14,9 @@ use std::io::Read;
 const MAX_SCRIPT: usize = 512;
 
 const MAX_WAYS: u32 = 4096;
+
+// The work words that judging such a script with so many ways wants.
+const WORDS: usize = 311296;
 
 // Reads as much of a file as fits, and says how much that was.
 fn read_up_to(file: &mut File, buf: &mut [u8]) -> Result<usize, AnyError>
@@ -33,37 +36,45 @@ fn read_up_to(file: &mut File, buf: &mut [u8]) -> Result<usize, AnyError>
     Ok(n)
 }
 
-// The functions of a program that was read: their arguments, and the bytes of their bodies.
-fn list(rt: &LibcRuntime, script: &[u8], ends: &[u32], starts: &[u32], n: usize) -> Result<(), AnyError>
-    requires read { ⌜ ((p : Prog) × Tables (now script) p (now ends) (now starts) n) ⌝ }
-    requires ends_room { ⌜ length (now script) ≤ length (now ends) ⌝ }
-    requires starts_room { ⌜ n ≤ length (now starts) ⌝ }
+// The number of ways of a script that was judged, where they are not more than allowed.
+fn count_ways(script: &[u8], ways: u32, work: &mut [u32]) -> Option<usize>
+    requires few { ⌜ length (now script) ≤ 512 ⌝ }
+    requires room { ⌜ 16384 + (64 * length (now script) + 64 * ways) ≤ length (now work) ⌝ }
 {
-    println!(rt, "functions: {n}")?;
-    for f in 0..n {
-        let function = function_at(script, ends, starts, f);
-        let args = function.args;
-        let len = function.body.len();
-        println!(rt, "{f}: arguments {args}, bytes {len}")?;
+    let (ends, rest) = work.split_at_mut(script.len());
+    let (starts, rest) = rest.split_at_mut(64);
+    match find_verdict(script, ways, ends, starts, rest) {
+        Verdict::Ends(_, n) => Some(n),
+        Verdict::NoReason(_, n) => Some(n),
+        Verdict::NoProgram => None,
+        Verdict::Many => None,
     }
-    Ok(())
 }
 
-fn show(rt: &LibcRuntime, script: &[u8]) -> Result<(), AnyError>
-    requires { ⌜ length (now script) ≤ 512 ⌝ }
+// Judges a script and prints what is said of it, with the number of its ways.
+fn show(rt: &LibcRuntime, script: &[u8], ways: u32) -> Result<(), AnyError>
+    requires few { ⌜ length (now script) ≤ 512 ⌝ }
+    requires ways { ⌜ ways ≤ 4096 ⌝ }
 {
-    let mut ends = [0u32; MAX_SCRIPT];
-    let mut starts = [0u32; 64];
-    let mut needs = [0u32; MAX_SCRIPT];
-    match read_program(script, &mut ends, &mut starts, &mut needs) {
-        Some(n) => list(rt, script, &ends, &starts, n)?,
-        None => println!(rt, "no program")?,
+    let mut work = [0u32; WORDS];
+    match judge(script, ways, &mut work) {
+        Judged::Ends => println!(rt, "ends")?,
+        Judged::NoReason => println!(rt, "no reason")?,
+        Judged::NoProgram => println!(rt, "no program")?,
+        Judged::Many => println!(rt, "many")?,
+        Judged::Few => println!(rt, "few")?,
+    }
+    match count_ways(script, ways, &mut work) {
+        Some(n) => println!(rt, "ways: {n}")?,
+        None => {}
     }
     Ok(())
 }
 
 // The number of ways allowed, as the second argument gives it.
-fn ways_allowed(rt: &LibcRuntime, text: Option<String>) -> Result<u32, AnyError> {
+fn ways_allowed(rt: &LibcRuntime, text: Option<String>) -> Result<u32, AnyError>
+    ensures { λ r. ⌜ made r (λ n. n ≤ 4096) ⌝ }
+{
     let Some(text) = text else {
         return Ok(MAX_WAYS);
     };
@@ -75,7 +86,10 @@ fn ways_allowed(rt: &LibcRuntime, text: Option<String>) -> Result<u32, AnyError>
         }
         Err(_) => {}
     }
-    Err(format!(rt.alloc(), "the number of ways is to be at most {MAX_WAYS}, and is {text:?}")?.into())
+    Err(format!(
+        rt.alloc(),
+        "the number of ways is to be at most {MAX_WAYS}, and is {text:?}"
+    )?.into())
 }
 
 // The script in a file, as the first bytes of the buffer, and how many they are.
@@ -95,12 +109,12 @@ fn run(rt: &LibcRuntime) -> Result<(), AnyError> {
     let Some(path) = args.next() else {
         return Err("usage: judge_script FILE [WAYS]".into());
     };
-    let _ways = ways_allowed(rt, args.next())?;
+    let ways = ways_allowed(rt, args.next())?;
     let n = read_script(rt, path.as_str(), &mut buf)?;
     if n > MAX_SCRIPT {
         return Err(format!(rt.alloc(), "{path} is longer than {MAX_SCRIPT} bytes")?.into());
     }
-    show(rt, &buf[0..n])
+    show(rt, &buf[0..n], ways)
 }
 
 fn main(rt: LibcRuntime) -> Result<(), AnyError> {

@@ -26,13 +26,16 @@ steps-of xs ss n h = steps-by-place xs n ss (h .number) (λ i s e. let k = h .ea
 
 pub settled-ends : (st : List ℕ) (n limit : ℕ) (xs : List ℕ) (count : ℕ) (ss : List Step) → Fine 64 8 ss → StepRows st ss n → Whole (rows st n) limit xs count → Decides-reason xs count None → Settles ss limit (graph.Ends count)
 settled-ends st n limit xs count ss f h w d = let y = w .ways ss (steps-of st ss n h) in (y .0, y .1, y .2, w .fits, d ss (y .0) f (y .1) (y .3))
+
 pub settled-none : (st : List ℕ) (n limit : ℕ) (xs : List ℕ) (count k : ℕ) (ss : List Step) → Fine 64 8 ss → StepRows st ss n → Whole (rows st n) limit xs count → Decides-reason xs count (Some k) → Settles ss limit (graph.NoReason count)
 settled-none st n limit xs count k ss f h w d = let y = w .ways ss (steps-of st ss n h) in (y .0, y .1, y .2, w .fits, d ss (y .0) f (y .1) (y .3))
 
 -- from the call graph to the script
 pub says-ends : (s ends starts : List ℕ) (n : ℕ) (p : Prog) (k count : ℕ) → Tables s p ends starts k → Settles (call-graph p) n (graph.Ends count) → VerdictSays s ends starts n (Ends k count)
 says-ends s ends starts n p k count t h = (p, record { tables = t; list = h .0; ways = h .1; number = h .2; few = h .3 }, h .4)
+
 pub says-none : (s ends starts : List ℕ) (n : ℕ) (p : Prog) (k count : ℕ) → Tables s p ends starts k → Settles (call-graph p) n (graph.NoReason count) → VerdictSays s ends starts n (NoReason k count)
 says-none s ends starts n p k count t h = (p, record { tables = t; list = h .0; ways = h .1; number = h .2; few = h .3 }, h .4)
+
 pub says-many : (s ends starts : List ℕ) (n : ℕ) (p : Prog) (k : ℕ) → Tables s p ends starts k → Settles (call-graph p) n graph.Many → VerdictSays s ends starts n Many
 says-many s ends starts n p k t h = (p, h .0, t .program, h .1, h .2)

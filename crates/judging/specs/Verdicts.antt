@@ -20,6 +20,7 @@ pub record Judgeable (s ends starts : List ℕ) (n : ℕ) (p : Prog) (functions 
   pub ways : Ways-of p list
   pub number : length list ≡ count
   pub few : count ≤ n
+
 abbrev pub VerdictSays : List ℕ → List ℕ → List ℕ → ℕ → Verdict → Type 0
 VerdictSays s ends starts n (Ends functions count) = (p : Prog) × Judgeable s ends starts n p functions count × Ends-for-a-reason p
 VerdictSays s ends starts n (NoReason functions count) = (p : Prog) × Judgeable s ends starts n p functions count × (Ends-for-a-reason p → ⊥)

@@ -74,7 +74,13 @@ fn search(program: &[u8], limit: u32, ends: &[u32], work: &mut [u32]) -> GraphVe
 }
 
 // Judges a script, with so many ways allowed. The tables afterwards say where each expression ends and where each function starts.
-pub fn find_verdict(program: &[u8], ways: u32, ends: &mut [u32], starts: &mut [u32], work: &mut [u32]) -> Verdict
+pub fn find_verdict(
+    program: &[u8],
+    ways: u32,
+    ends: &mut [u32],
+    starts: &mut [u32],
+    work: &mut [u32],
+) -> Verdict
     requires ends_room { ⌜ length (now program) ≤ length (now ends) ⌝ }
     requires starts_room { ⌜ 64 ≤ length (now starts) ⌝ }
     requires work_room { ⌜ 16320 + (63 * length (now program) + 64 * ways) ≤ length (now work) ⌝ }

@@ -161,12 +161,14 @@ body-ends s ends g at h k = go (h (at + 1) (omega arith) (body-within s g at k))
     go : EndWord s (at + 1) (getD ends (at + 1) 0) → (0 < getD ends (at + 1) 0) ⊎ (getD ends (at + 1) 0 ≤ 0) → (getD ends (at + 1) 0 ≤ length s) × (at + 1 < getD ends (at + 1) 0) × Reads (drop (at + 1) s) (g .body) (drop (getD ends (at + 1) 0) s)
     go w (inl l) = let e = w .some l in (e .0, e .1, subst (λ (x : Expr). Reads (drop (at + 1) s) x (drop (getD ends (at + 1) 0) s)) (reads-one (e .3) (k .body-there) .0) (e .3))
     go w (inr l) = absurd (w .none (omega arith) (g .body) (k .rest) (k .body-there))
+
 pub body-bytes : (s : List ℕ) (g : Fun) (a b : ℕ) → a ≤ b → b ≤ length s → Reads (drop a s) (g .body) (drop b s) → take (b - a) (drop a s) ≡ bytesE (g .body)
 body-bytes s g a b l m r =
     let e = reads-bytes r in
     let k = ap length e in
     let n : length (bytesE (g .body)) ≡ b - a = let x = length-append (bytesE (g .body)) (drop b s) in let y = length-drop a s in let z = length-drop b s in omega arith in
     subst (λ (xs : List ℕ). take (b - a) xs ≡ bytesE (g .body)) e (take-at (bytesE (g .body)) (drop b s) (b - a) n)
+
 pub table-function : (s ends starts : List ℕ) (p : Prog) (n f : ℕ) → Tables s p ends starts n → f < n → (g : Fun) × (nth p f ≡ opt.some g) × StandsAt s g (getD starts f 0)
 table-function s ends starts p n f h l = let m = h .found .number in let x = nth-some p f (omega arith) in (x .0, x .1, h .found .starting f (x .0) (x .1))
 
@@ -175,7 +177,9 @@ pub record Placed (s ends : List ℕ) (start : ℕ) : Type 0 where
   pub body-in : start + 1 < length s
   pub ends-in : getD ends (start + 1) 0 ≤ length s
   pub forward : start + 1 ≤ getD ends (start + 1) 0
+
 pub placed : (s ends starts : List ℕ) (f : ℕ) → (p : Prog) × (n : ℕ) × Tables s p ends starts n × (f < n) → Placed s ends (getD starts f 0)
 placed s ends starts f h = let x = table-function s ends starts (h .0) (h .1) f (h .2) (h .3) in let b = body-ends s ends (x .0) (getD starts f 0) (h .2 .ending) (x .2) in let c = b .1 in record { body-in = body-within s (x .0) (getD starts f 0) (x .2); ends-in = b .0; forward = omega arith }
+
 pub function-is : (s ends starts : List ℕ) (p : Prog) (n f : ℕ) (g : Fun) → Tables s p ends starts n → nth p f ≡ opt.some g → (getD s (getD starts f 0) 0 ≡ g .args) × (take (getD ends (getD starts f 0 + 1) 0 - (getD starts f 0 + 1)) (drop (getD starts f 0 + 1) s) ≡ bytesE (g .body))
 function-is s ends starts p n f g h e = let k = h .found .starting f g e in let b = body-ends s ends g (getD starts f 0) (h .ending) k in let c = b .1 in (k .args-there, body-bytes s g (getD starts f 0 + 1) (getD ends (getD starts f 0 + 1) 0) (omega arith) (b .0) (b .2))

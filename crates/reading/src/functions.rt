@@ -59,5 +59,8 @@ pub fn function_at<'a>(bytes: &'a [u8], ends: &[u32], starts: &[u32], f: usize) 
 {
     let start = starts[f] as usize;
     let end = ends[start + 1] as usize;
-    Function { args: bytes[start], body: &bytes[start + 1..end] }
+    Function {
+        args: bytes[start],
+        body: &bytes[start + 1..end],
+    }
 }

@@ -1,7 +1,10 @@
 // The interpreter: an expression is worked out by following its bytes.
-ghost use mathlib.Core.Bool.{true};
-ghost use Prim.Native.Nat.{ℕ, _+_, _≤_, _<_};
+ghost use mathlib.Core.Bool.{Bool, true};
+ghost use Prim.Native.Nat.{ℕ, _+_, _≤_};
 ghost use lib.ListN.{length, getD};
+ghost use Rattle.std.specs.declared.option.Option.the-variants.{Some};
+ghost use Rattle.reading.specs.declared.head.Head.the-variants.{Node};
+ghost use Rattle.reading.specs.Heads.{HeadAt};
 ghost use Rattle.tasks.specs.Tasks.{Stands, Says};
 ghost use Rattle.tasks.specs.Stores.{Ready, Moved, Wide, task, tasks, floor, comes-to, come-to};
 use reading::head::Head;
@@ -33,18 +36,7 @@ pub fn value(
         match text.head(at) {
             Head::Var(i) => return store.variable(top, i),
             Head::Leaf => return 0,
-            Head::Node => {
-                let left = operand(text, store, at + 1, base, top, depth);
-                if store.stop != GOING {
-                    return 0;
-                }
-                let next = text.end(at + 1);
-                let right = operand(text, store, next, base, top, depth);
-                if store.stop != GOING {
-                    return 0;
-                }
-                return store.make(left, right);
-            }
+            Head::Node => return node(text, store, at, base, top, depth),
             Head::Parts(i) => {
                 let whole = store.variable(top, i);
                 if whole == 0 {
@@ -87,6 +79,35 @@ pub fn value(
             }
         }
     }
+}
+
+// Works out the two parts of a node, and makes it if there is room then.
+fn node(
+    text: &Text<'_>,
+    store: &mut Store<'_>,
+    at: usize,
+    base: usize,
+    top: usize,
+    depth: usize,
+) -> u32
+    requires head { ⌜ HeadAt (now (now text .bytes)) at (Some Node) ⌝ }
+    requires ready { ⌜ Ready (now store) base top ⌝ }
+    requires wide { ⌜ Wide (now (now text .bytes)) (length (now (now store .frames))) at base top depth ⌝ }
+    requires stands { ⌜ Stands (now (now text .bytes)) (task (now store) at base top depth true) ⌝ }
+    ensures moved { λ _. ⌜ Moved top (now (store .entry)) (now (store .exit)) ⌝ }
+    ensures there { λ r. ⌜ r ≤ now (store .exit) .used ⌝ }
+    ensures says { λ r. ⌜ ((inside : Bool) → Says (now (now (text .entry) .bytes)) (task (now (store .entry)) at base top depth inside) (comes-to (now (store .exit)) r)) ⌝ }
+{
+    let left = operand(text, store, at + 1, base, top, depth);
+    if store.stop != GOING {
+        return 0;
+    }
+    let next = text.end(at + 1);
+    let right = operand(text, store, next, base, top, depth);
+    if store.stop != GOING {
+        return 0;
+    }
+    store.make(left, right)
 }
 
 // Works out the expression at a place inside another; a variable and a leaf are read where they stand.

@@ -1,10 +1,10 @@
 -- A call in memory: its arguments one after another, and its body.
 use mathlib.Core.Path.{_≡_, refl, sym, ap, ap₂, subst, subst₂, fun-ext, _∙_}
-use mathlib.Core.Bool.{Bool, true, false, cond, _&&_}
+use mathlib.Core.Bool.{Bool, true, false, _&&_}
 use mathlib.Core.List.{List, [], _∷_, _++_, map, append-assoc}
 use mathlib.Core.Logic.{_≢_, ⊎-elim, ∥∥₁-elim}
 use mathlib.Core.Option.{some}
-use Prim.Native.Nat.{ℕ, zero, suc, _+_, _-_, _*_, _≤_, _<_}
+use Prim.Native.Nat.{ℕ, zero, suc, _+_, _-_, _≤_, _<_}
 use native.Mathlib.Omega.{arith}
 use native.Mathlib.Bridge.{le-prop}
 use lib.ListN.{length, drop, getD, take, set, replicate, length-set}
@@ -17,18 +17,18 @@ use Rattle.reading.specs.declared.head.Head.the-variants.{Var, Parts, Call}
 use Rattle.reading.specs.Heads.{HeadAt}
 use Rattle.reading.proofs.Heading.{Goes, g-var, g-parts, g-call, goes-at}
 use Rattle.lang.specs.Program.{Tree, Expr, Fun, Prog, count}
-use Rattle.lang.specs.Bytes.{ok, oks, takes, Program}
-use Rattle.lang.specs.Eval.{Outcome, Outcomes, val, full, deep, vals, no-vals, Bad, is-full, is-deep, Mode, tail, inner}
+use Rattle.lang.specs.Bytes.{ok, oks, takes}
+use Rattle.lang.specs.Eval.{Outcome, Outcomes, deep, vals, no-vals, Mode, tail}
 use Rattle.lang.proofs.Lists.{both}
-use Rattle.arena.specs.Nodes.{tree, env, Grown}
+use Rattle.arena.specs.Nodes.{tree}
 use Rattle.arena.proofs.Stacks.{length-env}
 use Rattle.tasks.specs.declared.store.Store.{Store}
-use Rattle.tasks.specs.Tasks.{Task, expr, list, Stands, Says, Within, Leads}
+use Rattle.tasks.specs.Tasks.{expr, list, Stands, Says, Within, Leads}
 use Rattle.tasks.specs.Texts.{Ending, EndsAt, Body, Standing, Numbered}
 use Rattle.tasks.specs.Stores.{frame, room, outcome, outcomes, comes-to, come-to, Ready, Moved, Held, mode, task, tasks}
 use Rattle.tasks.proofs.Costs.{leads-says, leads-same, leads-more, leads-stands, within-stands}
 use Rattle.tasks.proofs.Moves.{taken, call-args, says-call1, says-call0, call-tail, call-inner, prepend, says-none, list-one, says-bad, list-rest}
-use Rattle.tasks.proofs.Paths.{same-frame, still, moved-then, value-is}
+use Rattle.tasks.proofs.Paths.{same-frame, still, moved-then, value-is, bad}
 use Rattle.tasks.proofs.Frames.{grown-same}
 
 -- something stands where a task does; a variable that is named is in view; a call's arguments are few, and its function is there
@@ -69,11 +69,6 @@ come-none : (k : ℕ) (ts : List Tree) (r : ℕ) (t : Tree) (q : ℕ) → k ≢ 
 come-none zero ts r t q n = absurd (n refl)
 come-none (suc zero) ts r t q n = refl
 come-none (suc (suc k)) ts r t q n = refl
-
-bad-stop : (k : ℕ) (t : Tree) (r : ℕ) → k ≢ 0 → Bad (outcome k t r)
-bad-stop zero t r n = absurd (n refl)
-bad-stop (suc zero) t r n = is-full
-bad-stop (suc (suc k)) t r n = is-deep
 
 module _ (s : List ℕ) (st : Store) (at base top depth : ℕ) (inside : Bool) (f n : ℕ) (a : HeadAt s at (Some (Call f n))) where
   pub path-args : Within s (tasks st (at + 3) base top depth n) (task st at base top depth inside)
@@ -177,7 +172,7 @@ module _ (s : List ℕ) (st0 : Store) (at0 base top depth n : ℕ) where
         pub worked-stop : (us : List ℕ) → st1 .stop ≢ 0 → Says s (tasks st0 at0 base top depth n) (come-to st1 us n)
         worked-stop us stops =
             let o = comes-to st1 v in
-            let here : Says s (tasks st at base top depth (n - j)) (no-vals o) = subst (λ (k : ℕ). Says s (tasks st at base top depth k) (no-vals o)) (sym one-more) (says-bad s at depth (frame st base top) (room st) (n - (j + 1)) o (bad-stop (st1 .stop) (tree (st1 .nodes .now) v) (room st1) stops) says) in
+            let here : Says s (tasks st at base top depth (n - j)) (no-vals o) = subst (λ (k : ℕ). Says s (tasks st at base top depth k) (no-vals o)) (sym one-more) (says-bad s at depth (frame st base top) (room st) (n - (j + 1)) o (bad (st1 .stop) (tree (st1 .nodes .now) v) (room st1) stops) says) in
             subst (λ (q : Outcomes). Says s (tasks st0 at0 base top depth n) q) (sym (come-none (st1 .stop) (map (tree (st1 .nodes .now)) (take n us)) (room st1) (tree (st1 .nodes .now) v) (room st1) stops))
             (leads-says s 0 (tasks st at base top depth (n - j)) (tasks st0 at0 base top depth n) (prepend (map (tree (st .nodes .now)) (take j vs))) (w .leads) (no-vals o) here)
 

@@ -1,7 +1,7 @@
 -- The cost of a task: how many rules the one derivation has, by the theorem that there is one.
-use mathlib.Core.Path.{_≡_, refl, sym, ap, subst, _∙_}
+use mathlib.Core.Path.{_≡_, refl, sym, subst, _∙_}
 use mathlib.Core.Bool.{Bool, true, false}
-use mathlib.Core.List.{List, [], _∷_}
+use mathlib.Core.List.{List}
 use mathlib.Core.Logic.{_⊎_, inl, inr, ∥∥₁-elim, ∥∥₁-prop}
 use mathlib.Core.HLevel.{Σ-prop-path}
 use Prim.Native.Nat.{ℕ, zero, suc, _+_, _≤_, _<_}

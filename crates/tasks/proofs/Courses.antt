@@ -1,28 +1,28 @@
 -- From the task at the beginning to what is left of it: each turn of the interpreter goes on with a task that leads to the first.
 use mathlib.Core.Path.{_≡_, refl, sym, ap, subst, subst₂, subst₃, _∙_}
-use mathlib.Core.Bool.{Bool, true, false, cond}
+use mathlib.Core.Bool.{Bool, true, false}
 use mathlib.Core.List.{List, map}
-use Prim.Native.Nat.{ℕ, zero, suc, _+_, _-_, _*_, _≤_, _<_}
+use Prim.Native.Nat.{ℕ, suc, _+_, _-_, _*_, _≤_, _<_}
 use native.Mathlib.Omega.{arith}
 use lib.ListN.{length, take, drop, getD}
 use Rattle.lang.specs.Program.{Tree, Expr}
 use Rattle.lang.specs.Reads.{Reads, r-cons}
 use Rattle.reading.proofs.Heading.{Goes, g-parts, goes-at}
 use Rattle.arena.specs.Nodes.{tree, Grown, Well}
-use Rattle.lang.specs.Eval.{Outcome}
+use Rattle.lang.specs.Eval.{Outcome, inner}
 use Rattle.tasks.specs.declared.store.Store.{Store}
 use Rattle.tasks.specs.declared.text.Text.{Text}
 use Rattle.tasks.specs.Tasks.{Task, Stands, Says, Within, Leads}
 use Rattle.tasks.specs.Stores.{Ready, Moved, Held, Wide, come-to, mode, task, tasks, frame, room, floor}
 use Rattle.tasks.proofs.Costs.{cost, within-less, leads-less, leads-stands, leads-says, leads-same, leads-more}
 use Rattle.std.specs.declared.option.Option.the-variants.{Some}
-use Rattle.reading.specs.declared.head.Head.the-variants.{Var, Parts, Call}
+use Rattle.reading.specs.declared.head.Head.the-variants.{Var, Node, Parts, Call}
 use Rattle.reading.specs.Heads.{HeadAt}
 use Rattle.tasks.specs.Texts.{Standing, Numbered, Body}
 use Rattle.tasks.proofs.Standings.{first-bytes}
 use Rattle.tasks.proofs.Calling.{Worked, moved-same, worked-within, standing, in-frame, var-in-view, parts-in-view, few-args, call-there, path-tail, path-inner}
 use Rattle.tasks.proofs.Paths.{moved-then}
-use Rattle.tasks.proofs.Moves.{prepend}
+use Rattle.tasks.proofs.Moves.{prepend, node-mode}
 
 pub record Course (s : List ℕ) (st0 : Store) (at0 base0 top0 depth0 : ℕ) (inside0 : Bool) (st : Store) (at base top depth : ℕ) (inside : Bool) : Type 0 where
   pub ready : Ready st base top
@@ -205,9 +205,33 @@ moved-stopped floor st st1 st2 m a b c d = record {
   kept = λ j h. ap (λ (xs : List ℕ). getD xs j 0) d ∙ m .kept j h;
 }
 
--- twice the cost falls by two at least
-pub falls-odd : (a b t : ℕ) → a < b → 2 * b ≡ t → 2 * a + 1 < t
-falls-odd a b t l e = omega arith
+-- three times the cost falls by three at least, which leaves room for those that hand their own task on
+pub falls-to-operand : (a b t : ℕ) → a < b → 3 * b ≡ t → 3 * a + 2 < t
+falls-to-operand a b t l e = omega arith
 
-pub falls-even : (a b t : ℕ) → a < b → 2 * b ≡ t → 2 * a < t
-falls-even a b t l e = omega arith
+pub falls-from-value : (a b t : ℕ) → a < b → 3 * b + 1 ≡ t → 3 * a + 2 < t
+falls-from-value a b t l e = omega arith
+
+pub falls-to-arguments : (a b t : ℕ) → a < b → 3 * b + 1 ≡ t → 3 * a < t
+falls-to-arguments a b t l e = omega arith
+
+pub part-falls : (x : Text) (u t : Task) → Stands (x .bytes .now) t → Within (x .bytes .now) u t → cost-of x u < cost-of x t
+part-falls x u t h w = within-less (x .bytes .now) (x .ends .now) (x .starts .now) (x .ending) u t h w
+
+-- a node that is left to do stands inside too, and costs no more there than the first task
+module _ (x : Text) (st0 : Store) (at0 base0 top0 depth0 : ℕ) (inside0 : Bool) (st : Store) (at base top depth : ℕ) (inside : Bool) (h : Stands (x .bytes .now) (task st0 at0 base0 top0 depth0 inside0)) (c : Course (x .bytes .now) st0 at0 base0 top0 depth0 inside0 st at base top depth inside) (a : HeadAt (x .bytes .now) at (Some Node)) where
+  stands-here : Stands (x .bytes .now) (task st at base top depth inside)
+  stands-here = course-stands (x .bytes .now) st0 at0 base0 top0 depth0 inside0 st at base top depth inside c h
+
+  node-leads : Leads (x .bytes .now) 0 (task st at base top depth true) (task st at base top depth inside) (λ o. o)
+  node-leads = node-mode (x .bytes .now) at inner (mode inside) depth (frame st base top) (room st) a
+
+  pub node-stands : Stands (x .bytes .now) (task st at base top depth true)
+  node-stands = leads-stands (x .bytes .now) 0 (task st at base top depth true) (task st at base top depth inside) (λ o. o) node-leads stands-here
+
+  pub node-falls : (t : ℕ) → 3 * cost-of x (task st0 at0 base0 top0 depth0 inside0) + 1 ≡ t → 3 * cost-of x (task st at base top depth true) < t
+  node-falls t e =
+      let t1 = task st at base top depth inside in
+      let l = leads-less (x .bytes .now) (x .ends .now) (x .starts .now) (x .ending) 0 (task st at base top depth true) t1 (λ o. o) stands-here node-leads in
+      let k = leads-less (x .bytes .now) (x .ends .now) (x .starts .now) (x .ending) 0 t1 (task st0 at0 base0 top0 depth0 inside0) (λ o. o) h (c .leads) in
+      omega arith

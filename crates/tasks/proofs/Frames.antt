@@ -2,19 +2,19 @@
 use mathlib.Core.Path.{_≡_, refl, sym, ap, ap₂, subst, _∙_}
 use mathlib.Core.List.{List, [], _∷_, map}
 use mathlib.Core.Logic.{_≢_, ⊎-elim}
-use mathlib.Core.Option.{Option, some}
+use mathlib.Core.Option.{some}
 use Prim.Native.Nat.{ℕ, zero, suc, _+_, _-_, _*_, _≤_, _<_}
 use native.Mathlib.Omega.{arith}
 use lib.ListN.{length, drop, getD, set, take, length-set, length-drop}
 use Rattle.std.proofs.shelf.Lists.{getD-set-same, getD-set-other, getD-drop, drop-set-add}
 use Rattle.std.proofs.shelf.Tests.{cases-eq}
 use Rattle.sizechange.specs.Graph.{nth}
-use Rattle.lang.specs.Program.{Tree, node}
-use Rattle.arena.specs.Nodes.{tree, env, forest, Sound, Grown, Well, Parts, left-of, right-of}
+use Rattle.lang.specs.Program.{Tree}
+use Rattle.arena.specs.Nodes.{tree, env, forest, Sound, Grown, Well, left-of, right-of}
 use Rattle.arena.proofs.Trees.{tree-parts}
-use Rattle.arena.proofs.Stacks.{env-more, env-grown, env-above, length-env}
+use Rattle.arena.proofs.Stacks.{env-more}
 use Rattle.tasks.specs.declared.store.Store.{Store}
-use Rattle.tasks.specs.Stores.{frame, room, Ready, Moved, Held}
+use Rattle.tasks.specs.Stores.{frame, Ready, Held}
 
 pub grown-same : (ws : List ℕ) (used : ℕ) → Sound ws used → Grown ws used ws used
 grown-same ws used s = record { long = refl; more = omega arith; sound = s; kept = λ n h. refl }

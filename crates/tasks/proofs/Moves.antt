@@ -1,27 +1,26 @@
 -- How an expression's task goes on, by its head: one lemma for each rule.
-use mathlib.Core.Path.{_≡_, refl, sym, ap, subst, _∙_}
-use mathlib.Core.Bool.{Bool, _&&_}
+use mathlib.Core.Path.{_≡_, refl, sym, subst, _∙_}
+use mathlib.Core.Bool.{_&&_}
 use mathlib.Core.List.{List, [], _∷_, _++_}
 use mathlib.Core.Option.{Option, some, none}
 use Prim.Native.Nat.{ℕ, zero, suc, _+_, _≤_, _<_}
 use native.Mathlib.Omega.{arith}
 use lib.ListN.{length, drop}
-use lib.Dec.{T, eqb, ltb, leb, eqb→eq, ltb→lt}
+use lib.Dec.{T, ltb, eqb→eq}
 use Rattle.sizechange.specs.Graph.{nth}
-use Rattle.std.specs.declared.option.Option.the-variants.{Some, None}
-use Rattle.lang.specs.Program.{Tree, leaf, node, Expr, var, a-leaf, a-node, parts, bind, call, Exprs, nil, cons, Fun, Prog, count, max-args}
-use Rattle.lang.specs.Eval.{Outcome, Outcomes, val, full, deep, vals, no-vals, Bad, is-full, is-deep, made, Mode, tail, inner, Eval, EvalAll, e-var, e-leaf, e-node, e-node1, e-node2, e-parts1, e-parts2, e-bind, e-bind1, e-tail, e-call, e-call0, e-call1, a-nil, a-cons, a-bad, a-rest}
+use Rattle.std.specs.declared.option.Option.the-variants.{Some}
+use Rattle.lang.specs.Program.{Tree, leaf, node, Expr, a-node, bind, call, Exprs, cons, Fun, Prog, count}
+use Rattle.lang.specs.Eval.{Outcome, Outcomes, val, deep, vals, no-vals, Bad, is-full, is-deep, made, Mode, tail, inner, Eval, EvalAll, e-var, e-leaf, e-node, e-node1, e-node2, e-parts1, e-parts2, e-bind, e-bind1, e-tail, e-call, e-call0, e-call1, a-nil, a-cons, a-bad, a-rest}
 use Rattle.lang.specs.Rules.{rules, rules-all}
 use Rattle.lang.specs.Bytes.{bytesE, takes, ok, oks, all-ok, Program}
 use Rattle.lang.specs.Reads.{Reads, ReadsAll, r-nil, r-cons}
 use Rattle.lang.proofs.Rules.{one-eval}
 use Rattle.lang.proofs.Lists.{both}
 use Rattle.lang.proofs.Reading.{reads-ok, body-ok, fine-parts}
-use Rattle.reading.specs.declared.head.Head.{Head}
 use Rattle.reading.specs.declared.head.Head.the-variants.{Var, Leaf, Node, Parts, Bind, Call}
-use Rattle.reading.specs.Heads.{HeadAt, widthOf}
+use Rattle.reading.specs.Heads.{HeadAt}
 use Rattle.reading.proofs.Heading.{Goes, g-var, g-leaf, g-node, g-parts, g-bind, g-call, goes-at}
-use Rattle.tasks.specs.Tasks.{Task, expr, list, Here, Says, Within, Leads}
+use Rattle.tasks.specs.Tasks.{expr, list, Here, Says, Within, Leads}
 use Rattle.tasks.specs.Texts.{EndsAt, Body}
 
 val-bad : {t : Tree} {q : ℕ} {o : Outcome} → val t q ≡ o → Bad o → ⊥
@@ -249,3 +248,15 @@ module _ (s : List ℕ) (at d : ℕ) (ρ : List Tree) (r : ℕ) where
           let f = both (ok p (length ρ) e) (oks p (length ρ) es) fine in
           let x = says p e w (record { rest = ys; reads = h; fine = f .0 }) in
           (es, record { rest = zs; reads = subst (λ (u : List ℕ). ReadsAll n u es zs) (z .ends e ys h) l; fine = f .1 }, after e es x)
+
+-- a node is worked out alike inside and last
+node-alike : {p : Prog} {m : Mode} {d r : ℕ} {ρ : List Tree} {a b : Expr} {o : Outcome} (m′ : Mode) (x : Eval p m d ρ (a-node a b) r o) → (y : Eval p m′ d ρ (a-node a b) r o) × (rules x + 0 ≤ rules y)
+node-alike m′ (e-node x y) = (e-node x y, omega arith)
+node-alike m′ (e-node1 x bad) = (e-node1 x bad, omega arith)
+node-alike m′ (e-node2 x y bad) = (e-node2 x y bad, omega arith)
+
+pub node-mode : (s : List ℕ) (at : ℕ) (m m′ : Mode) (d : ℕ) (ρ : List Tree) (r : ℕ) → HeadAt s at (Some Node) → Leads s 0 (expr at m d ρ r) (expr at m′ d ρ r) (λ o. o)
+node-mode s at m m′ d ρ r a p e w h = go (goes-at s at Node a (h .reads)) (h .reads) (h .fine)
+  where
+    go : {e : Expr} {x : List ℕ} → Goes Node (drop (at + 1) s) e x → Reads (drop at s) e x → T (ok p (length ρ) e) → (f : Expr) × Here s p (expr at m d ρ r) f × ((o : Outcome) (y : Eval p m d ρ f r o) → (x : Eval p m′ d ρ e r o) × (rules y + 0 ≤ rules x))
+    go {x = x} (g-node {a = a} {b = b} l) reads fine = (a-node a b, record { rest = x; reads = reads; fine = fine }, λ o y. node-alike m′ y)

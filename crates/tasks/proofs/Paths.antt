@@ -1,27 +1,27 @@
 -- What is done for each head, in memory: what it says of the task here.
-use mathlib.Core.Path.{_≡_, refl, sym, ap, ap₂, subst, subst₂, _∙_}
-use mathlib.Core.Bool.{Bool, true, false, cond}
-use mathlib.Core.List.{List, [], _∷_, _++_, map}
+use mathlib.Core.Path.{_≡_, refl, sym, ap, subst, subst₂, _∙_}
+use mathlib.Core.Bool.{Bool, true}
+use mathlib.Core.List.{List, _∷_}
 use mathlib.Core.Logic.{_≢_}
 use mathlib.Core.Option.{some}
-use Prim.Native.Nat.{ℕ, zero, suc, _+_, _-_, _*_, _≤_, _<_}
+use Prim.Native.Nat.{ℕ, zero, suc, _+_, _-_, _≤_, _<_}
 use native.Mathlib.Omega.{arith}
-use lib.ListN.{length, drop, getD, take}
+use lib.ListN.{drop, getD}
 use Rattle.std.proofs.shelf.Lists.{getD-drop}
 use Rattle.sizechange.specs.Graph.{nth}
 use Rattle.std.specs.declared.option.Option.the-variants.{Some}
-use Rattle.reading.specs.declared.head.Head.the-variants.{Var, Leaf, Node, Parts, Bind, Call}
+use Rattle.reading.specs.declared.head.Head.the-variants.{Var, Leaf, Node, Parts, Bind}
 use Rattle.reading.specs.Heads.{HeadAt}
-use Rattle.lang.specs.Program.{Tree, leaf, node}
-use Rattle.lang.specs.Eval.{Outcome, val, full, deep, vals, no-vals, Bad, is-full, is-deep, made, Mode, tail, inner}
-use Rattle.arena.specs.Nodes.{tree, env, Grown, Well, left-of, right-of, IsNode}
+use Rattle.lang.specs.Program.{Tree, node}
+use Rattle.lang.specs.Eval.{Outcome, val, Bad, is-full, is-deep, made, Mode, inner}
+use Rattle.arena.specs.Nodes.{tree, left-of, right-of, IsNode}
 use Rattle.arena.proofs.Trees.{leaf-zero}
 use Rattle.tasks.specs.declared.store.Store.{Store}
-use Rattle.tasks.specs.Tasks.{Task, expr, list, Says, Within, Leads}
-use Rattle.tasks.specs.Texts.{EndsAt, Body}
-use Rattle.tasks.specs.Stores.{frame, room, outcome, comes-to, come-to, Ready, Moved, Held, mode, task, tasks, floor}
+use Rattle.tasks.specs.Tasks.{expr, Says, Within, Leads}
+use Rattle.tasks.specs.Texts.{EndsAt}
+use Rattle.tasks.specs.Stores.{frame, room, outcome, comes-to, Ready, Moved, Held, mode, task}
 use Rattle.tasks.proofs.Frames.{env-same}
-use Rattle.tasks.proofs.Moves.{says-var, says-leaf, node-left, node-right, says-node1, says-node2, says-node, parts-leaf, parts-node, bind-value, says-bind1, bind-rest, call-args, says-call1, says-call0, call-tail, call-inner}
+use Rattle.tasks.proofs.Moves.{says-var, says-leaf, node-left, node-right, says-node1, says-node2, says-node, parts-leaf, parts-node, bind-value, says-bind1, bind-rest}
 
 -- one move after another
 pub moved-then : (a b : ℕ) (st st1 st2 : Store) → Moved a st st1 → Moved b st1 st2 → a ≤ b → Moved a st st2
@@ -58,7 +58,7 @@ still st st1 base top r m going = record {
 pub value-is : (st : Store) (v : ℕ) → st .stop ≡ 0 → comes-to st v ≡ val (tree (st .nodes .now) v) (room st)
 value-is st v e = ap (λ k. outcome k (tree (st .nodes .now) v) (room st)) e
 
-bad : (k : ℕ) (t : Tree) (r : ℕ) → k ≢ 0 → Bad (outcome k t r)
+pub bad : (k : ℕ) (t : Tree) (r : ℕ) → k ≢ 0 → Bad (outcome k t r)
 bad zero t r n = absurd (n refl)
 bad (suc zero) t r n = is-full
 bad (suc (suc k)) t r n = is-deep

@@ -1,9 +1,8 @@
 -- A run: the body of a function, with its arguments in the first frame.
-use mathlib.Core.Path.{_≡_, refl, sym, ap, subst, subst₂, _∙_}
+use mathlib.Core.Path.{_≡_, refl, sym, subst₂, _∙_}
 use mathlib.Core.Bool.{false}
 use mathlib.Core.List.{List}
 use mathlib.Core.Logic.{∥∥₁-elim}
-use mathlib.Core.Option.{some}
 use Prim.Native.Nat.{ℕ, _+_, _*_, _≤_, _<_}
 use native.Mathlib.Omega.{arith}
 use native.Mathlib.Bridge.{le-prop}
@@ -16,7 +15,7 @@ use Rattle.tasks.specs.declared.store.Store.{Store}
 use Rattle.tasks.specs.declared.text.Text.{Text}
 use Rattle.tasks.specs.Tasks.{expr, Here, Stands, Says}
 use Rattle.tasks.specs.Texts.{Body, Numbered, Taking}
-use Rattle.tasks.specs.Stores.{frame, room, task, Held, Wide}
+use Rattle.tasks.specs.Stores.{room, task, Held, Wide}
 use Rattle.tasks.proofs.Moves.{taken, body-here}
 use Rattle.tasks.proofs.Standings.{few-bytes}
 

@@ -11,7 +11,7 @@ use lib.ListN.{length, drop, getD}
 use Rattle.std.proofs.shelf.Lists.{drop-at}
 use Rattle.sizechange.specs.Graph.{nth}
 use Rattle.lang.specs.Program.{Expr, Fun, Prog}
-use Rattle.lang.specs.Bytes.{bytesE, Program}
+use Rattle.lang.specs.Bytes.{bytesE}
 use Rattle.lang.specs.Reads.{Reads}
 use Rattle.lang.proofs.Reading.{reads-one, reads-bytes, one-program, fine-parts}
 use Rattle.reading.specs.Ends.{EndWord}

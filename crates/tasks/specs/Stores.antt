@@ -1,13 +1,13 @@
 -- What is in the store: nodes, and the variables in frames.
 use mathlib.Core.Path.{_≡_}
 use mathlib.Core.Bool.{Bool, true, false, cond}
-use mathlib.Core.List.{List, _∷_, map}
+use mathlib.Core.List.{List, map}
 use Prim.Native.Nat.{ℕ, zero, suc, _+_, _-_, _*_, _≤_, _<_}
 use lib.ListN.{length, drop, getD, take}
-use Rattle.lang.specs.Program.{Tree, node}
-use Rattle.lang.specs.Eval.{Outcome, val, full, deep, Outcomes, vals, no-vals, made, Mode, tail, inner}
+use Rattle.lang.specs.Program.{Tree}
+use Rattle.lang.specs.Eval.{Outcome, val, full, deep, Outcomes, vals, no-vals, Mode, tail, inner}
 use Rattle.tasks.specs.Tasks.{Task, expr, list}
-use Rattle.arena.specs.Nodes.{tree, env, Grown, Well, left-of, right-of}
+use Rattle.arena.specs.Nodes.{tree, env, Grown, Well}
 use Rattle.tasks.specs.declared.store.Store.{Store}
 
 -- the variables in view are in the frame from base to top, the newest last

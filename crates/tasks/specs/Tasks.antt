@@ -1,11 +1,10 @@
 -- A task: an expression to be worked out, or the arguments of a call. Nothing of memory is in it.
-use mathlib.Core.Path.{_≡_}
-use mathlib.Core.List.{List, _++_}
+use mathlib.Core.List.{List}
 use Prim.Native.Nat.{ℕ, _+_, _≤_, _<_}
 use lib.ListN.{length, drop}
 use lib.Dec.{T}
 use Rattle.lang.specs.Program.{Tree, Expr, Exprs, Prog}
-use Rattle.lang.specs.Eval.{Outcome, Outcomes, vals, no-vals, Mode, Eval, EvalAll}
+use Rattle.lang.specs.Eval.{Outcome, Outcomes, Mode, Eval, EvalAll}
 use Rattle.lang.specs.Rules.{rules, rules-all}
 use Rattle.lang.specs.Bytes.{ok, oks, Program}
 use Rattle.lang.specs.Reads.{Reads, ReadsAll}

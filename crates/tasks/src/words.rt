@@ -22,7 +22,7 @@ pub const DEEP: u8 = 2;
 // A function takes at most so many arguments.
 pub const MAX_ARGS: usize = 8;
 
-// The numbers of the arguments of a call, the first of the array as many as it has.
+// The numbers of a call's arguments; the places after them are not used.
 #[derive(Clone, Copy)]
 pub struct Given(pub [u32; MAX_ARGS]);
 

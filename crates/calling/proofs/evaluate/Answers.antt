@@ -5,12 +5,12 @@ use Rattle.calling.proofs.evaluate.Needs as need
 
 pub run-requires : need.run-requires
 run-requires c κs = record {
-    well = c .pre .well;
-    going = c .pre .going;
-    words = c .pre .words;
-    takes = given-takes (c .args .text .now .bytes .now) (c .args .f) (c .args .stack .now) (c .args .n) (c .pre .within) (c .pre .takes);
-    there = given-there (c .args .stack .now) (c .args .n) (c .args .store .now .used) (c .pre .within) (c .pre .there);
-  }
+  well = c .pre .well;
+  going = c .pre .going;
+  words = c .pre .words;
+  takes = given-takes (c .args .text .now .bytes .now) (c .args .f) (c .args .stack .now) (c .args .n) (c .pre .within) (c .pre .takes);
+  there = given-there (c .args .stack .now) (c .args .n) (c .args .store .now .used) (c .pre .within) (c .pre .there);
+}
 
 pub returns-in-Some : need.returns-in-Some
 returns-in-Some c =

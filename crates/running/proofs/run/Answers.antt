@@ -1,18 +1,18 @@
 -- The body of the function, with its arguments in the first frame, comes to what the call does.
 use native.Mathlib.Omega.{arith}
-use mathlib.Core.Path.{_≡_, refl, sym, subst, _∙_}
+use mathlib.Core.Path.{subst}
 use mathlib.Core.Bool.{false}
-use Prim.Native.Nat.{ℕ, zero, suc, _-_, _≤_}
+use Prim.Native.Nat.{ℕ, zero, suc, _≤_}
 use lib.ListN.{length}
 use mathlib.Core.List.{List}
 use Rattle.lang.specs.Program.{Tree}
 use Rattle.tasks.specs.declared.store.Store.{Store}
-use Rattle.lang.specs.Eval.{Outcome, val, full, deep}
+use Rattle.lang.specs.Eval.{val, full, deep}
 use Rattle.arena.specs.Nodes.{tree, env}
 use Rattle.arena.proofs.Trees.{sound-below}
 use Rattle.arena.proofs.Stacks.{length-env}
 use Rattle.tasks.specs.Tasks.{Says}
-use Rattle.tasks.specs.Stores.{task, outcome, comes-to, room}
+use Rattle.tasks.specs.Stores.{task, outcome, room}
 use Rattle.tasks.proofs.Paths.{moved-then}
 use Rattle.tasks.proofs.Runs.{taking-few, taking-numbered, run-wide, run-stands, run-calls}
 use Rattle.running.proofs.run.Needs as need

@@ -51,7 +51,19 @@ pub fn go(
     let (frames, rest) = rest.split_at_mut(WORDS_CALL * (depth as usize + 1));
     match find_verdict(program, ways, ends, starts, rest) {
         Verdict::Ends(functions, _) => {
-            let called = call(program, ends, starts, functions, function, args, depth as usize, room as usize, out, memory, frames);
+            let called = call(
+                program,
+                ends,
+                starts,
+                functions,
+                function,
+                args,
+                depth as usize,
+                room as usize,
+                out,
+                memory,
+                frames,
+            );
             answer(called)
         }
         Verdict::NoReason(_, _) => Ran::Unproved,

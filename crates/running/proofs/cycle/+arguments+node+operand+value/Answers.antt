@@ -1,22 +1,18 @@
 -- Each turn goes on with what is left of the first task; what is left, and every part of it, costs less.
-use borrow.Author.Needs.{needs}
 use native.Mathlib.Omega.{arith}
-use mathlib.Core.Path.{_≡_, refl, sym, subst, _∙_}
-use mathlib.Core.Bool.{Bool, true, false}
+use mathlib.Core.Path.{refl, _∙_}
+use mathlib.Core.Bool.{true}
 use lib.ListN.{length}
-use Prim.Native.Nat.{ℕ, suc, _+_, _-_, _≤_, _<_}
-use Rattle.arena.specs.Nodes.{IsNode, tree}
+use Prim.Native.Nat.{_+_, _<_}
 use Rattle.arena.proofs.Trees.{tree-parts, is-node}
 use Rattle.tasks.specs.declared.store.Store.{Store}
-use Rattle.tasks.specs.Tasks.{Stands, Within, Leads}
-use Rattle.tasks.specs.Stores.{Ready, Moved, Held, Wide, task, tasks, floor, comes-to}
-use Rattle.tasks.proofs.Costs.{within-stands, leads-stands}
-use Rattle.tasks.proofs.Moves.{prepend}
-use Rattle.tasks.proofs.Paths.{moved-then, still, same-frame, path-var, path-leaf, path-left, path-left-stops, path-right, path-right-stops, path-made, path-bound, path-parts-leaf, path-parts-node, path-value, path-value-stops}
-use Rattle.tasks.proofs.Calling.{Worked, moved-same, zeros, old-set, worked-none, worked-all, worked-within, worked-stop, worked-more, worked-stands, path-args, path-args-stop, path-deep, path-tail, path-inner}
-use Rattle.tasks.proofs.Courses.{Course, cost-of, falls-odd, falls-even, course-start, course-stands, course-says, course-moved, course-step, course-up, here-parts, course-falls, worked-falls, step-falls, here, below-end, var-view, parts-view, few-given, call-numbered, words-above, wide-part, wide-one, wide-two, Enters, opened, replaced, enters-wide, enters-words, enters-leads, course-enters, moved-stopped}
-use Rattle.running.proofs.cycle.+arguments+operand+value.Needs as need
-use Rattle.running.proofs.cycle.+arguments+operand+value.Needs.{value-then-inside·else-depth-eq0, value-else-inside}
+use Rattle.tasks.specs.Stores.{task, tasks}
+use Rattle.tasks.proofs.Costs.{within-stands}
+use Rattle.tasks.proofs.Paths.{moved-then, still, path-var, path-leaf, path-left, path-left-stops, path-right, path-right-stops, path-made, path-bound, path-parts-leaf, path-parts-node, path-value, path-value-stops}
+use Rattle.tasks.proofs.Calling.{moved-same, zeros, old-set, worked-none, worked-all, worked-stop, worked-more, worked-stands, path-args, path-args-stop, path-deep}
+use Rattle.tasks.proofs.Courses.{cost-of, falls-to-operand, falls-from-value, falls-to-arguments, part-falls, node-stands, node-falls, course-start, course-stands, course-says, course-moved, course-step, course-up, here-parts, course-falls, worked-falls, step-falls, here, var-view, parts-view, few-given, call-numbered, words-above, wide-part, wide-one, wide-two, Enters, opened, replaced, enters-wide, enters-words, enters-leads, course-enters, moved-stopped}
+use Rattle.running.proofs.cycle.+arguments+node+operand+value.Needs as need
+use Rattle.running.proofs.cycle.+arguments+node+operand+value.Needs.{value-then-inside·else-depth-eq0, value-else-inside}
 
 pub arguments-loop-j-holds : need.arguments-loop-j-holds
 arguments-loop-j-holds t c =
@@ -34,7 +30,7 @@ arguments-operand-v-requires t c κs =
     let ne = c .if-j-n .left in
     let more : c .loop-j .j < c .args .n = omega arith in
     let f = worked-falls (c .args .text .now) (c .args .store .now) (c .args .at) (c .args .base) (c .args .top) (c .args .depth) (c .args .n) (c .loop-j .store) (c .loop-j .at) (c .loop-j .j) (c .loop-j .given .0) (c .pre .stand) w more in
-    (falls-odd (cost-of (c .args .text .now) (task (c .loop-j .store) (c .loop-j .at) (c .args .base) (c .args .top) (c .args .depth) true)) (cost-of (c .args .text .now) (tasks (c .args .store .now) (c .args .at) (c .args .base) (c .args .top) (c .args .depth) (c .args .n))) t f (c .measured), (w .ready, (c .loop-j .inv .1, worked-stands (c .args .text .now .bytes .now) (c .args .store .now) (c .args .at) (c .args .base) (c .args .top) (c .args .depth) (c .args .n) (c .loop-j .store) (c .loop-j .at) (c .loop-j .j) (c .loop-j .given .0) w more (c .pre .stand))))
+    (falls-to-operand (cost-of (c .args .text .now) (task (c .loop-j .store) (c .loop-j .at) (c .args .base) (c .args .top) (c .args .depth) true)) (cost-of (c .args .text .now) (tasks (c .args .store .now) (c .args .at) (c .args .base) (c .args .top) (c .args .depth) (c .args .n))) t f (c .measured), (w .ready, (c .loop-j .inv .1, worked-stands (c .args .text .now .bytes .now) (c .args .store .now) (c .args .at) (c .args .base) (c .args .top) (c .args .depth) (c .args .n) (c .loop-j .store) (c .loop-j .at) (c .loop-j .j) (c .loop-j .given .0) w more (c .pre .stand))))
 
 pub arguments-returns-then-store-ne-GOING : need.arguments-returns-then-store-ne-GOING
 arguments-returns-then-store-ne-GOING t c =
@@ -102,6 +98,33 @@ pub operand-value-requires : need.operand-value-requires
 operand-value-requires t c κs =
     (let m = c .measured in omega arith, (c .pre .ready, (c .pre .wide, c .pre .stands)))
 
+pub node-operand-left-requires : need.node-operand-left-requires
+node-operand-left-requires t c κs =
+    let p = path-left (c .args .text .now .bytes .now) (c .args .store .now) (c .args .at) (c .args .base) (c .args .top) (c .args .depth) true (c .pre .head) in
+    (falls-to-operand (cost-of (c .args .text .now) (task (c .args .store .now) (c .args .at + 1) (c .args .base) (c .args .top) (c .args .depth) true)) (cost-of (c .args .text .now) (task (c .args .store .now) (c .args .at) (c .args .base) (c .args .top) (c .args .depth) true)) t (part-falls (c .args .text .now) (task (c .args .store .now) (c .args .at + 1) (c .args .base) (c .args .top) (c .args .depth) true) (task (c .args .store .now) (c .args .at) (c .args .base) (c .args .top) (c .args .depth) true) (c .pre .stands) p) (c .measured), (c .pre .ready, (wide-part (c .args .text .now .bytes .now) (length (c .args .store .now .frames .now)) (length (c .args .store .now .frames .now)) (c .args .at) (c .args .base) (c .args .top) (c .args .depth) (c .pre .wide) refl (c .args .at + 1) (omega arith), within-stands (c .args .text .now .bytes .now) (task (c .args .store .now) (c .args .at + 1) (c .args .base) (c .args .top) (c .args .depth) true) (task (c .args .store .now) (c .args .at) (c .args .base) (c .args .top) (c .args .depth) true) p (c .pre .stands))))
+
+pub node-returns-then-store-ne-GOING : need.node-returns-then-store-ne-GOING
+node-returns-then-store-ne-GOING t c =
+    record { moved = c .operand-left .ensures .moved; there = omega arith; says = λ inside. path-left-stops (c .args .text .now .bytes .now) (c .args .store .now) (c .args .at) (c .args .base) (c .args .top) (c .args .depth) inside (c .operand-left .last .store) (c .operand-left .result) (c .pre .head) (c .if-store-ne-GOING .taken) (c .operand-left .ensures .says) }
+
+pub node-end-next-requires : need.node-end-next-requires
+node-end-next-requires t c κs =
+    here (c .args .text .now) (c .args .store .now) (c .args .at + 1) (c .args .base) (c .args .top) (c .args .depth) true (within-stands (c .args .text .now .bytes .now) (task (c .args .store .now) (c .args .at + 1) (c .args .base) (c .args .top) (c .args .depth) true) (task (c .args .store .now) (c .args .at) (c .args .base) (c .args .top) (c .args .depth) true) (path-left (c .args .text .now .bytes .now) (c .args .store .now) (c .args .at) (c .args .base) (c .args .top) (c .args .depth) true (c .pre .head)) (c .pre .stands))
+
+pub node-operand-right-requires : need.node-operand-right-requires
+node-operand-right-requires t c κs =
+    let l = c .end-next .ensures .after in
+    let p = path-right (c .args .text .now .bytes .now) (c .args .store .now) (c .args .at) (c .args .base) (c .args .top) (c .args .depth) true (c .pre .ready) (c .operand-left .last .store) (c .operand-left .result) (c .end-next .result) (c .operand-left .ensures .moved) (c .if-store-ne-GOING .left) (c .operand-left .ensures .says) (c .end-next .ensures) (c .pre .head) in
+    (falls-to-operand (cost-of (c .args .text .now) (task (c .operand-left .last .store) (c .end-next .result) (c .args .base) (c .args .top) (c .args .depth) true)) (cost-of (c .args .text .now) (task (c .args .store .now) (c .args .at) (c .args .base) (c .args .top) (c .args .depth) true)) t (part-falls (c .args .text .now) (task (c .operand-left .last .store) (c .end-next .result) (c .args .base) (c .args .top) (c .args .depth) true) (task (c .args .store .now) (c .args .at) (c .args .base) (c .args .top) (c .args .depth) true) (c .pre .stands) p) (c .measured), (still (c .args .store .now) (c .operand-left .last .store) (c .args .base) (c .args .top) (c .pre .ready) (c .operand-left .ensures .moved) (c .if-store-ne-GOING .left), (wide-part (c .args .text .now .bytes .now) (length (c .args .store .now .frames .now)) (length (c .operand-left .last .store .frames .now)) (c .args .at) (c .args .base) (c .args .top) (c .args .depth) (c .pre .wide) (c .operand-left .ensures .moved .words) (c .end-next .result) (omega arith), within-stands (c .args .text .now .bytes .now) (task (c .operand-left .last .store) (c .end-next .result) (c .args .base) (c .args .top) (c .args .depth) true) (task (c .args .store .now) (c .args .at) (c .args .base) (c .args .top) (c .args .depth) true) p (c .pre .stands))))
+
+pub node-returns-then-store-ne-GOING-2 : need.node-returns-then-store-ne-GOING-2
+node-returns-then-store-ne-GOING-2 t c =
+    record { moved = moved-then (c .args .top) (c .args .top) (c .args .store .now) (c .operand-left .last .store) (c .operand-right .last .store) (c .operand-left .ensures .moved) (c .operand-right .ensures .moved) (omega arith); there = omega arith; says = λ inside. path-right-stops (c .args .text .now .bytes .now) (c .args .store .now) (c .args .at) (c .args .base) (c .args .top) (c .args .depth) inside (c .pre .ready) (c .operand-left .last .store) (c .operand-left .result) (c .end-next .result) (c .operand-left .ensures .moved) (c .if-store-ne-GOING .left) (c .operand-left .ensures .says) (c .end-next .ensures) (c .operand-right .last .store) (c .operand-right .result) (c .pre .head) (c .if-store-ne-GOING-2 .taken) (c .operand-right .ensures .says) }
+
+pub node-returns : need.node-returns
+node-returns t c =
+    record { moved = moved-then (c .args .top) (c .args .top) (c .args .store .now) (c .operand-right .last .store) (c .make .last .self) (moved-then (c .args .top) (c .args .top) (c .args .store .now) (c .operand-left .last .store) (c .operand-right .last .store) (c .operand-left .ensures .moved) (c .operand-right .ensures .moved) (omega arith)) (c .make .ensures .moved (c .args .top)) (omega arith); there = c .make .ensures .there; says = λ inside. path-made (c .args .text .now .bytes .now) (c .args .store .now) (c .args .at) (c .args .base) (c .args .top) (c .args .depth) inside (c .pre .ready) (c .operand-left .last .store) (c .operand-left .result) (c .end-next .result) (c .operand-left .ensures .moved) (c .if-store-ne-GOING .left) (c .operand-left .ensures .says) (c .end-next .ensures) (c .operand-right .last .store) (c .make .last .self) (c .operand-right .result) (c .make .result) (c .pre .head) (c .operand-left .ensures .there) (c .operand-right .ensures .moved) (c .if-store-ne-GOING-2 .left) (c .operand-right .ensures .says) (c .make .ensures .comes) }
+
 pub value-body-holds : need.value-body-holds
 value-body-holds t c =
     course-start (c .args .text .now .bytes .now) (c .args .store .now) (c .args .at) (c .args .base) (c .args .top) (c .args .depth) (c .args .inside) (c .pre .ready) (c .pre .wide)
@@ -131,42 +154,14 @@ value-returns-in-Leaf t c =
     let a = c .in-Leaf .ensures tt in
     record { moved = c .body .inv .moved; there = omega arith; says = course-says (c .args .text .now .bytes .now) (c .args .store .now) (c .args .at) (c .args .base) (c .args .top) (c .args .depth) (c .args .inside) (c .body .store) (c .body .at) (c .body .base) (c .body .top) (c .body .depth) (c .body .inside) (c .body .inv) _ (path-leaf (c .args .text .now .bytes .now) (c .body .store) (c .body .at) (c .body .base) (c .body .top) (c .body .depth) (c .body .inside) (c .body .inv .ready .going) a) }
 
-pub value-operand-left-requires : need.value-operand-left-requires
-value-operand-left-requires t c κs =
-    let h = course-stands (c .args .text .now .bytes .now) (c .args .store .now) (c .args .at) (c .args .base) (c .args .top) (c .args .depth) (c .args .inside) (c .body .store) (c .body .at) (c .body .base) (c .body .top) (c .body .depth) (c .body .inside) (c .body .inv) (c .pre .stands) in
+pub value-node-requires : need.value-node-requires
+value-node-requires t c κs =
     let a = c .in-Node .ensures tt in
-    let p = path-left (c .args .text .now .bytes .now) (c .body .store) (c .body .at) (c .body .base) (c .body .top) (c .body .depth) (c .body .inside) a in
-    (falls-odd (cost-of (c .args .text .now) (task (c .body .store) (c .body .at + 1) (c .body .base) (c .body .top) (c .body .depth) true)) (cost-of (c .args .text .now) (task (c .args .store .now) (c .args .at) (c .args .base) (c .args .top) (c .args .depth) (c .args .inside))) t (course-falls (c .args .text .now) (c .args .store .now) (c .args .at) (c .args .base) (c .args .top) (c .args .depth) (c .args .inside) (c .body .store) (c .body .at) (c .body .base) (c .body .top) (c .body .depth) (c .body .inside) (c .pre .stands) (c .body .inv) (task (c .body .store) (c .body .at + 1) (c .body .base) (c .body .top) (c .body .depth) true) p) (c .measured), (c .body .inv .ready, (wide-part (c .args .text .now .bytes .now) (length (c .body .store .frames .now)) (length (c .body .store .frames .now)) (c .body .at) (c .body .base) (c .body .top) (c .body .depth) (c .body .inv .wide) refl (c .body .at + 1) (omega arith), within-stands (c .args .text .now .bytes .now) (task (c .body .store) (c .body .at + 1) (c .body .base) (c .body .top) (c .body .depth) true) (task (c .body .store) (c .body .at) (c .body .base) (c .body .top) (c .body .depth) (c .body .inside)) p h)))
-
-pub value-returns-then-store-ne-GOING : need.value-returns-then-store-ne-GOING
-value-returns-then-store-ne-GOING t c =
-    let a = c .in-Node .ensures tt in
-    record { moved = course-moved (c .args .text .now .bytes .now) (c .args .store .now) (c .args .at) (c .args .base) (c .args .top) (c .args .depth) (c .args .inside) (c .body .store) (c .body .at) (c .body .base) (c .body .top) (c .body .depth) (c .body .inside) (c .body .inv) (c .operand-left .last .store) (c .operand-left .ensures .moved); there = omega arith; says = course-says (c .args .text .now .bytes .now) (c .args .store .now) (c .args .at) (c .args .base) (c .args .top) (c .args .depth) (c .args .inside) (c .body .store) (c .body .at) (c .body .base) (c .body .top) (c .body .depth) (c .body .inside) (c .body .inv) _ (path-left-stops (c .args .text .now .bytes .now) (c .body .store) (c .body .at) (c .body .base) (c .body .top) (c .body .depth) (c .body .inside) (c .operand-left .last .store) (c .operand-left .result) a (c .if-store-ne-GOING .taken) (c .operand-left .ensures .says)) }
-
-pub value-end-next-requires : need.value-end-next-requires
-value-end-next-requires t c κs =
-    let h = course-stands (c .args .text .now .bytes .now) (c .args .store .now) (c .args .at) (c .args .base) (c .args .top) (c .args .depth) (c .args .inside) (c .body .store) (c .body .at) (c .body .base) (c .body .top) (c .body .depth) (c .body .inside) (c .body .inv) (c .pre .stands) in
-    let a = c .in-Node .ensures tt in
-    here (c .args .text .now) (c .body .store) (c .body .at + 1) (c .body .base) (c .body .top) (c .body .depth) true (within-stands (c .args .text .now .bytes .now) (task (c .body .store) (c .body .at + 1) (c .body .base) (c .body .top) (c .body .depth) true) (task (c .body .store) (c .body .at) (c .body .base) (c .body .top) (c .body .depth) (c .body .inside)) (path-left (c .args .text .now .bytes .now) (c .body .store) (c .body .at) (c .body .base) (c .body .top) (c .body .depth) (c .body .inside) a) h)
-
-pub value-operand-right-requires : need.value-operand-right-requires
-value-operand-right-requires t c κs =
-    let h = course-stands (c .args .text .now .bytes .now) (c .args .store .now) (c .args .at) (c .args .base) (c .args .top) (c .args .depth) (c .args .inside) (c .body .store) (c .body .at) (c .body .base) (c .body .top) (c .body .depth) (c .body .inside) (c .body .inv) (c .pre .stands) in
-    let a = c .in-Node .ensures tt in
-    let l = c .end-next .ensures .after in
-    let p = path-right (c .args .text .now .bytes .now) (c .body .store) (c .body .at) (c .body .base) (c .body .top) (c .body .depth) (c .body .inside) (c .body .inv .ready) (c .operand-left .last .store) (c .operand-left .result) (c .end-next .result) (c .operand-left .ensures .moved) (c .if-store-ne-GOING .left) (c .operand-left .ensures .says) (c .end-next .ensures) a in
-    (falls-odd (cost-of (c .args .text .now) (task (c .operand-left .last .store) (c .end-next .result) (c .body .base) (c .body .top) (c .body .depth) true)) (cost-of (c .args .text .now) (task (c .args .store .now) (c .args .at) (c .args .base) (c .args .top) (c .args .depth) (c .args .inside))) t (course-falls (c .args .text .now) (c .args .store .now) (c .args .at) (c .args .base) (c .args .top) (c .args .depth) (c .args .inside) (c .body .store) (c .body .at) (c .body .base) (c .body .top) (c .body .depth) (c .body .inside) (c .pre .stands) (c .body .inv) (task (c .operand-left .last .store) (c .end-next .result) (c .body .base) (c .body .top) (c .body .depth) true) p) (c .measured), (still (c .body .store) (c .operand-left .last .store) (c .body .base) (c .body .top) (c .body .inv .ready) (c .operand-left .ensures .moved) (c .if-store-ne-GOING .left), (wide-part (c .args .text .now .bytes .now) (length (c .body .store .frames .now)) (length (c .operand-left .last .store .frames .now)) (c .body .at) (c .body .base) (c .body .top) (c .body .depth) (c .body .inv .wide) (c .operand-left .ensures .moved .words) (c .end-next .result) (omega arith), within-stands (c .args .text .now .bytes .now) (task (c .operand-left .last .store) (c .end-next .result) (c .body .base) (c .body .top) (c .body .depth) true) (task (c .body .store) (c .body .at) (c .body .base) (c .body .top) (c .body .depth) (c .body .inside)) p h)))
-
-pub value-returns-then-store-ne-GOING-2 : need.value-returns-then-store-ne-GOING-2
-value-returns-then-store-ne-GOING-2 t c =
-    let a = c .in-Node .ensures tt in
-    record { moved = course-moved (c .args .text .now .bytes .now) (c .args .store .now) (c .args .at) (c .args .base) (c .args .top) (c .args .depth) (c .args .inside) (c .body .store) (c .body .at) (c .body .base) (c .body .top) (c .body .depth) (c .body .inside) (c .body .inv) (c .operand-right .last .store) (moved-then (c .body .top) (c .body .top) (c .body .store) (c .operand-left .last .store) (c .operand-right .last .store) (c .operand-left .ensures .moved) (c .operand-right .ensures .moved) (omega arith)); there = omega arith; says = course-says (c .args .text .now .bytes .now) (c .args .store .now) (c .args .at) (c .args .base) (c .args .top) (c .args .depth) (c .args .inside) (c .body .store) (c .body .at) (c .body .base) (c .body .top) (c .body .depth) (c .body .inside) (c .body .inv) _ (path-right-stops (c .args .text .now .bytes .now) (c .body .store) (c .body .at) (c .body .base) (c .body .top) (c .body .depth) (c .body .inside) (c .body .inv .ready) (c .operand-left .last .store) (c .operand-left .result) (c .end-next .result) (c .operand-left .ensures .moved) (c .if-store-ne-GOING .left) (c .operand-left .ensures .says) (c .end-next .ensures) (c .operand-right .last .store) (c .operand-right .result) a (c .if-store-ne-GOING-2 .taken) (c .operand-right .ensures .says)) }
+    (node-falls (c .args .text .now) (c .args .store .now) (c .args .at) (c .args .base) (c .args .top) (c .args .depth) (c .args .inside) (c .body .store) (c .body .at) (c .body .base) (c .body .top) (c .body .depth) (c .body .inside) (c .pre .stands) (c .body .inv) a t (c .measured), (a, (c .body .inv .ready, (c .body .inv .wide, node-stands (c .args .text .now) (c .args .store .now) (c .args .at) (c .args .base) (c .args .top) (c .args .depth) (c .args .inside) (c .body .store) (c .body .at) (c .body .base) (c .body .top) (c .body .depth) (c .body .inside) (c .pre .stands) (c .body .inv) a))))
 
 pub value-returns-in-Node : need.value-returns-in-Node
 value-returns-in-Node t c =
-    let a = c .in-Node .ensures tt in
-    let m = moved-then (c .body .top) (c .body .top) (c .body .store) (c .operand-left .last .store) (c .operand-right .last .store) (c .operand-left .ensures .moved) (c .operand-right .ensures .moved) (omega arith) in
-    record { moved = course-moved (c .args .text .now .bytes .now) (c .args .store .now) (c .args .at) (c .args .base) (c .args .top) (c .args .depth) (c .args .inside) (c .body .store) (c .body .at) (c .body .base) (c .body .top) (c .body .depth) (c .body .inside) (c .body .inv) (c .make .last .self) (moved-then (c .body .top) (c .body .top) (c .body .store) (c .operand-right .last .store) (c .make .last .self) m (c .make .ensures .moved (c .body .top)) (omega arith)); there = c .make .ensures .there; says = course-says (c .args .text .now .bytes .now) (c .args .store .now) (c .args .at) (c .args .base) (c .args .top) (c .args .depth) (c .args .inside) (c .body .store) (c .body .at) (c .body .base) (c .body .top) (c .body .depth) (c .body .inside) (c .body .inv) _ (path-made (c .args .text .now .bytes .now) (c .body .store) (c .body .at) (c .body .base) (c .body .top) (c .body .depth) (c .body .inside) (c .body .inv .ready) (c .operand-left .last .store) (c .operand-left .result) (c .end-next .result) (c .operand-left .ensures .moved) (c .if-store-ne-GOING .left) (c .operand-left .ensures .says) (c .end-next .ensures) (c .operand-right .last .store) (c .make .last .self) (c .operand-right .result) (c .make .result) a (c .operand-left .ensures .there) (c .operand-right .ensures .moved) (c .if-store-ne-GOING-2 .left) (c .operand-right .ensures .says) (c .make .ensures .comes)) }
+    record { moved = course-moved (c .args .text .now .bytes .now) (c .args .store .now) (c .args .at) (c .args .base) (c .args .top) (c .args .depth) (c .args .inside) (c .body .store) (c .body .at) (c .body .base) (c .body .top) (c .body .depth) (c .body .inside) (c .body .inv) (c .node .last .store) (c .node .ensures .moved); there = c .node .ensures .there; says = course-says (c .args .text .now .bytes .now) (c .args .store .now) (c .args .at) (c .args .base) (c .args .top) (c .args .depth) (c .args .inside) (c .body .store) (c .body .at) (c .body .base) (c .body .top) (c .body .depth) (c .body .inside) (c .body .inv) _ (c .node .ensures .says (c .body .inside)) }
 
 pub value-variable-whole-requires : need.value-variable-whole-requires
 value-variable-whole-requires t c κs =
@@ -238,12 +233,12 @@ value-operand-bound-requires t c κs =
     let h = course-stands (c .args .text .now .bytes .now) (c .args .store .now) (c .args .at) (c .args .base) (c .args .top) (c .args .depth) (c .args .inside) (c .body .store) (c .body .at) (c .body .base) (c .body .top) (c .body .depth) (c .body .inside) (c .body .inv) (c .pre .stands) in
     let a = c .in-Bind .ensures tt in
     let p = path-value (c .args .text .now .bytes .now) (c .body .store) (c .body .at) (c .body .base) (c .body .top) (c .body .depth) (c .body .inside) a in
-    (falls-odd (cost-of (c .args .text .now) (task (c .body .store) (c .body .at + 1) (c .body .base) (c .body .top) (c .body .depth) true)) (cost-of (c .args .text .now) (task (c .args .store .now) (c .args .at) (c .args .base) (c .args .top) (c .args .depth) (c .args .inside))) t (course-falls (c .args .text .now) (c .args .store .now) (c .args .at) (c .args .base) (c .args .top) (c .args .depth) (c .args .inside) (c .body .store) (c .body .at) (c .body .base) (c .body .top) (c .body .depth) (c .body .inside) (c .pre .stands) (c .body .inv) (task (c .body .store) (c .body .at + 1) (c .body .base) (c .body .top) (c .body .depth) true) p) (c .measured), (c .body .inv .ready, (wide-part (c .args .text .now .bytes .now) (length (c .body .store .frames .now)) (length (c .body .store .frames .now)) (c .body .at) (c .body .base) (c .body .top) (c .body .depth) (c .body .inv .wide) refl (c .body .at + 1) (omega arith), within-stands (c .args .text .now .bytes .now) (task (c .body .store) (c .body .at + 1) (c .body .base) (c .body .top) (c .body .depth) true) (task (c .body .store) (c .body .at) (c .body .base) (c .body .top) (c .body .depth) (c .body .inside)) p h)))
+    (falls-from-value (cost-of (c .args .text .now) (task (c .body .store) (c .body .at + 1) (c .body .base) (c .body .top) (c .body .depth) true)) (cost-of (c .args .text .now) (task (c .args .store .now) (c .args .at) (c .args .base) (c .args .top) (c .args .depth) (c .args .inside))) t (course-falls (c .args .text .now) (c .args .store .now) (c .args .at) (c .args .base) (c .args .top) (c .args .depth) (c .args .inside) (c .body .store) (c .body .at) (c .body .base) (c .body .top) (c .body .depth) (c .body .inside) (c .pre .stands) (c .body .inv) (task (c .body .store) (c .body .at + 1) (c .body .base) (c .body .top) (c .body .depth) true) p) (c .measured), (c .body .inv .ready, (wide-part (c .args .text .now .bytes .now) (length (c .body .store .frames .now)) (length (c .body .store .frames .now)) (c .body .at) (c .body .base) (c .body .top) (c .body .depth) (c .body .inv .wide) refl (c .body .at + 1) (omega arith), within-stands (c .args .text .now .bytes .now) (task (c .body .store) (c .body .at + 1) (c .body .base) (c .body .top) (c .body .depth) true) (task (c .body .store) (c .body .at) (c .body .base) (c .body .top) (c .body .depth) (c .body .inside)) p h)))
 
-pub value-returns-then-store-ne-GOING-3 : need.value-returns-then-store-ne-GOING-3
-value-returns-then-store-ne-GOING-3 t c =
+pub value-returns-then-store-ne-GOING : need.value-returns-then-store-ne-GOING
+value-returns-then-store-ne-GOING t c =
     let a = c .in-Bind .ensures tt in
-    record { moved = course-moved (c .args .text .now .bytes .now) (c .args .store .now) (c .args .at) (c .args .base) (c .args .top) (c .args .depth) (c .args .inside) (c .body .store) (c .body .at) (c .body .base) (c .body .top) (c .body .depth) (c .body .inside) (c .body .inv) (c .operand-bound .last .store) (c .operand-bound .ensures .moved); there = omega arith; says = course-says (c .args .text .now .bytes .now) (c .args .store .now) (c .args .at) (c .args .base) (c .args .top) (c .args .depth) (c .args .inside) (c .body .store) (c .body .at) (c .body .base) (c .body .top) (c .body .depth) (c .body .inside) (c .body .inv) _ (path-value-stops (c .args .text .now .bytes .now) (c .body .store) (c .body .at) (c .body .base) (c .body .top) (c .body .depth) (c .body .inside) (c .operand-bound .last .store) (c .operand-bound .result) a (c .if-store-ne-GOING-3 .taken) (c .operand-bound .ensures .says)) }
+    record { moved = course-moved (c .args .text .now .bytes .now) (c .args .store .now) (c .args .at) (c .args .base) (c .args .top) (c .args .depth) (c .args .inside) (c .body .store) (c .body .at) (c .body .base) (c .body .top) (c .body .depth) (c .body .inside) (c .body .inv) (c .operand-bound .last .store) (c .operand-bound .ensures .moved); there = omega arith; says = course-says (c .args .text .now .bytes .now) (c .args .store .now) (c .args .at) (c .args .base) (c .args .top) (c .args .depth) (c .args .inside) (c .body .store) (c .body .at) (c .body .base) (c .body .top) (c .body .depth) (c .body .inside) (c .body .inv) _ (path-value-stops (c .args .text .now .bytes .now) (c .body .store) (c .body .at) (c .body .base) (c .body .top) (c .body .depth) (c .body .inside) (c .operand-bound .last .store) (c .operand-bound .result) a (c .if-store-ne-GOING .taken) (c .operand-bound .ensures .says)) }
 
 pub value-end-at-requires-in-Bind : need.value-end-at-requires-in-Bind
 value-end-at-requires-in-Bind t c κs =
@@ -256,9 +251,9 @@ value-body-less-in-Bind t c =
     let h = course-stands (c .args .text .now .bytes .now) (c .args .store .now) (c .args .at) (c .args .base) (c .args .top) (c .args .depth) (c .args .inside) (c .body .store) (c .body .at) (c .body .base) (c .body .top) (c .body .depth) (c .body .inside) (c .body .inv) (c .pre .stands) in
     let a = c .in-Bind .ensures tt in
     let m = c .operand-bound .ensures .moved in
-    let r1 = still (c .body .store) (c .operand-bound .last .store) (c .body .base) (c .body .top) (c .body .inv .ready) m (c .if-store-ne-GOING-3 .left) in
+    let r1 = still (c .body .store) (c .operand-bound .last .store) (c .body .base) (c .body .top) (c .body .inv .ready) m (c .if-store-ne-GOING .left) in
     let held = c .keep .ensures (c .body .base) r1 (c .operand-bound .ensures .there) in
-    let p = path-bound (c .args .text .now .bytes .now) (c .body .store) (c .body .at) (c .body .base) (c .body .top) (c .body .depth) (c .body .inside) (c .body .inv .ready) (c .operand-bound .last .store) (c .operand-bound .result) (c .end-at-in-Bind .result) m (c .if-store-ne-GOING-3 .left) (c .operand-bound .ensures .says) (c .end-at-in-Bind .ensures) (c .keep .last .self) a held in
+    let p = path-bound (c .args .text .now .bytes .now) (c .body .store) (c .body .at) (c .body .base) (c .body .top) (c .body .depth) (c .body .inside) (c .body .inv .ready) (c .operand-bound .last .store) (c .operand-bound .result) (c .end-at-in-Bind .result) m (c .if-store-ne-GOING .left) (c .operand-bound .ensures .says) (c .end-at-in-Bind .ensures) (c .keep .last .self) a held in
     step-falls (c .args .text .now) (c .body .store) (c .body .at) (c .body .base) (c .body .top) (c .body .depth) (c .body .inside) (c .keep .last .self) (c .end-at-in-Bind .result) (c .body .base) (c .body .top + 1) (c .body .depth) (c .body .inside) h p
 
 pub value-body-again-in-Bind : need.value-body-again-in-Bind
@@ -266,9 +261,9 @@ value-body-again-in-Bind t c =
     let h = course-stands (c .args .text .now .bytes .now) (c .args .store .now) (c .args .at) (c .args .base) (c .args .top) (c .args .depth) (c .args .inside) (c .body .store) (c .body .at) (c .body .base) (c .body .top) (c .body .depth) (c .body .inside) (c .body .inv) (c .pre .stands) in
     let a = c .in-Bind .ensures tt in
     let m = c .operand-bound .ensures .moved in
-    let r1 = still (c .body .store) (c .operand-bound .last .store) (c .body .base) (c .body .top) (c .body .inv .ready) m (c .if-store-ne-GOING-3 .left) in
+    let r1 = still (c .body .store) (c .operand-bound .last .store) (c .body .base) (c .body .top) (c .body .inv .ready) m (c .if-store-ne-GOING .left) in
     let held = c .keep .ensures (c .body .base) r1 (c .operand-bound .ensures .there) in
-    let p = path-bound (c .args .text .now .bytes .now) (c .body .store) (c .body .at) (c .body .base) (c .body .top) (c .body .depth) (c .body .inside) (c .body .inv .ready) (c .operand-bound .last .store) (c .operand-bound .result) (c .end-at-in-Bind .result) m (c .if-store-ne-GOING-3 .left) (c .operand-bound .ensures .says) (c .end-at-in-Bind .ensures) (c .keep .last .self) a held in
+    let p = path-bound (c .args .text .now .bytes .now) (c .body .store) (c .body .at) (c .body .base) (c .body .top) (c .body .depth) (c .body .inside) (c .body .inv .ready) (c .operand-bound .last .store) (c .operand-bound .result) (c .end-at-in-Bind .result) m (c .if-store-ne-GOING .left) (c .operand-bound .ensures .says) (c .end-at-in-Bind .ensures) (c .keep .last .self) a held in
     let l = c .end-at-in-Bind .ensures .after in
     course-up (c .args .text .now .bytes .now) (c .args .store .now) (c .args .at) (c .args .base) (c .args .top) (c .args .depth) (c .args .inside) (c .body .store) (c .body .at) (c .body .base) (c .body .top) (c .body .depth) (c .body .inside) (c .body .inv) (c .keep .last .self) (c .end-at-in-Bind .result) (c .body .top + 1) (held .ready) (wide-one (c .args .text .now .bytes .now) (length (c .body .store .frames .now)) (length (c .keep .last .self .frames .now)) (c .body .at) (c .body .base) (c .body .top) (c .body .depth) (c .body .inv .wide) (held .moved .words ∙ m .words) (c .end-at-in-Bind .result) (omega arith)) (moved-then (c .body .top) (c .body .top) (c .body .store) (c .operand-bound .last .store) (c .keep .last .self) m (held .moved) (omega arith)) (omega arith) p
 
@@ -277,19 +272,19 @@ value-arguments-given-requires t c κs =
     let h = course-stands (c .args .text .now .bytes .now) (c .args .store .now) (c .args .at) (c .args .base) (c .args .top) (c .args .depth) (c .args .inside) (c .body .store) (c .body .at) (c .body .base) (c .body .top) (c .body .depth) (c .body .inside) (c .body .inv) (c .pre .stands) in
     let a = c .in-Call .ensures tt in
     let p = path-args (c .args .text .now .bytes .now) (c .body .store) (c .body .at) (c .body .base) (c .body .top) (c .body .depth) (c .body .inside) (c .in-Call .f) (c .in-Call .n) a in
-    (falls-even (cost-of (c .args .text .now) (tasks (c .body .store) (c .body .at + 3) (c .body .base) (c .body .top) (c .body .depth) (c .in-Call .n))) (cost-of (c .args .text .now) (task (c .args .store .now) (c .args .at) (c .args .base) (c .args .top) (c .args .depth) (c .args .inside))) t (course-falls (c .args .text .now) (c .args .store .now) (c .args .at) (c .args .base) (c .args .top) (c .args .depth) (c .args .inside) (c .body .store) (c .body .at) (c .body .base) (c .body .top) (c .body .depth) (c .body .inside) (c .pre .stands) (c .body .inv) (tasks (c .body .store) (c .body .at + 3) (c .body .base) (c .body .top) (c .body .depth) (c .in-Call .n)) p) (c .measured), (few-given (c .args .text .now) (c .body .store) (c .body .at) (c .body .base) (c .body .top) (c .body .depth) (c .body .inside) h (c .in-Call .f) (c .in-Call .n) a, (c .body .inv .ready, (wide-part (c .args .text .now .bytes .now) (length (c .body .store .frames .now)) (length (c .body .store .frames .now)) (c .body .at) (c .body .base) (c .body .top) (c .body .depth) (c .body .inv .wide) refl (c .body .at + 3) (omega arith), within-stands (c .args .text .now .bytes .now) (tasks (c .body .store) (c .body .at + 3) (c .body .base) (c .body .top) (c .body .depth) (c .in-Call .n)) (task (c .body .store) (c .body .at) (c .body .base) (c .body .top) (c .body .depth) (c .body .inside)) p h))))
+    (falls-to-arguments (cost-of (c .args .text .now) (tasks (c .body .store) (c .body .at + 3) (c .body .base) (c .body .top) (c .body .depth) (c .in-Call .n))) (cost-of (c .args .text .now) (task (c .args .store .now) (c .args .at) (c .args .base) (c .args .top) (c .args .depth) (c .args .inside))) t (course-falls (c .args .text .now) (c .args .store .now) (c .args .at) (c .args .base) (c .args .top) (c .args .depth) (c .args .inside) (c .body .store) (c .body .at) (c .body .base) (c .body .top) (c .body .depth) (c .body .inside) (c .pre .stands) (c .body .inv) (tasks (c .body .store) (c .body .at + 3) (c .body .base) (c .body .top) (c .body .depth) (c .in-Call .n)) p) (c .measured), (few-given (c .args .text .now) (c .body .store) (c .body .at) (c .body .base) (c .body .top) (c .body .depth) (c .body .inside) h (c .in-Call .f) (c .in-Call .n) a, (c .body .inv .ready, (wide-part (c .args .text .now .bytes .now) (length (c .body .store .frames .now)) (length (c .body .store .frames .now)) (c .body .at) (c .body .base) (c .body .top) (c .body .depth) (c .body .inv .wide) refl (c .body .at + 3) (omega arith), within-stands (c .args .text .now .bytes .now) (tasks (c .body .store) (c .body .at + 3) (c .body .base) (c .body .top) (c .body .depth) (c .in-Call .n)) (task (c .body .store) (c .body .at) (c .body .base) (c .body .top) (c .body .depth) (c .body .inside)) p h))))
 
-pub value-returns-then-store-ne-GOING-4 : need.value-returns-then-store-ne-GOING-4
-value-returns-then-store-ne-GOING-4 t c =
+pub value-returns-then-store-ne-GOING-2 : need.value-returns-then-store-ne-GOING-2
+value-returns-then-store-ne-GOING-2 t c =
     let a = c .in-Call .ensures tt in
-    record { moved = course-moved (c .args .text .now .bytes .now) (c .args .store .now) (c .args .at) (c .args .base) (c .args .top) (c .args .depth) (c .args .inside) (c .body .store) (c .body .at) (c .body .base) (c .body .top) (c .body .depth) (c .body .inside) (c .body .inv) (c .arguments-given .last .store) (c .arguments-given .ensures .moved); there = omega arith; says = course-says (c .args .text .now .bytes .now) (c .args .store .now) (c .args .at) (c .args .base) (c .args .top) (c .args .depth) (c .args .inside) (c .body .store) (c .body .at) (c .body .base) (c .body .top) (c .body .depth) (c .body .inside) (c .body .inv) _ (path-args-stop (c .args .text .now .bytes .now) (c .body .store) (c .body .at) (c .body .base) (c .body .top) (c .body .depth) (c .body .inside) (c .in-Call .f) (c .in-Call .n) a (c .arguments-given .last .store) (c .arguments-given .result .0) (c .arguments-given .ensures .say) (c .if-store-ne-GOING-4 .taken)) }
+    record { moved = course-moved (c .args .text .now .bytes .now) (c .args .store .now) (c .args .at) (c .args .base) (c .args .top) (c .args .depth) (c .args .inside) (c .body .store) (c .body .at) (c .body .base) (c .body .top) (c .body .depth) (c .body .inside) (c .body .inv) (c .arguments-given .last .store) (c .arguments-given .ensures .moved); there = omega arith; says = course-says (c .args .text .now .bytes .now) (c .args .store .now) (c .args .at) (c .args .base) (c .args .top) (c .args .depth) (c .args .inside) (c .body .store) (c .body .at) (c .body .base) (c .body .top) (c .body .depth) (c .body .inside) (c .body .inv) _ (path-args-stop (c .args .text .now .bytes .now) (c .body .store) (c .body .at) (c .body .base) (c .body .top) (c .body .depth) (c .body .inside) (c .in-Call .f) (c .in-Call .n) a (c .arguments-given .last .store) (c .arguments-given .result .0) (c .arguments-given .ensures .say) (c .if-store-ne-GOING-2 .taken)) }
 
 pub value-returns-then-depth-eq0 : need.value-returns-then-depth-eq0
 value-returns-then-depth-eq0 t c =
     let a = c .in-Call .ensures tt in
     let one = (c .arguments-given .last .store) in
     let st : Store = record { nodes = one .nodes; used = one .used; limit = one .limit; frames = one .frames; stop = 2 } in
-    record { moved = course-moved (c .args .text .now .bytes .now) (c .args .store .now) (c .args .at) (c .args .base) (c .args .top) (c .args .depth) (c .args .inside) (c .body .store) (c .body .at) (c .body .base) (c .body .top) (c .body .depth) (c .body .inside) (c .body .inv) st (moved-stopped (c .body .top) (c .body .store) (c .arguments-given .last .store) st (c .arguments-given .ensures .moved) refl refl refl refl); there = omega arith; says = course-says (c .args .text .now .bytes .now) (c .args .store .now) (c .args .at) (c .args .base) (c .args .top) (c .args .depth) (c .args .inside) (c .body .store) (c .body .at) (c .body .base) (c .body .top) (c .body .depth) (c .body .inside) (c .body .inv) _ (path-deep (c .args .text .now .bytes .now) (c .body .store) (c .body .at) (c .body .base) (c .body .top) (c .body .depth) (c .body .inside) (c .in-Call .f) (c .in-Call .n) a (c .arguments-given .last .store) (c .arguments-given .result .0) (c .arguments-given .ensures .say) st (c .if-store-ne-GOING-4 .left) (c .if-inside .taken) (c .if-depth-eq0 .taken) refl) }
+    record { moved = course-moved (c .args .text .now .bytes .now) (c .args .store .now) (c .args .at) (c .args .base) (c .args .top) (c .args .depth) (c .args .inside) (c .body .store) (c .body .at) (c .body .base) (c .body .top) (c .body .depth) (c .body .inside) (c .body .inv) st (moved-stopped (c .body .top) (c .body .store) (c .arguments-given .last .store) st (c .arguments-given .ensures .moved) refl refl refl refl); there = omega arith; says = course-says (c .args .text .now .bytes .now) (c .args .store .now) (c .args .at) (c .args .base) (c .args .top) (c .args .depth) (c .args .inside) (c .body .store) (c .body .at) (c .body .base) (c .body .top) (c .body .depth) (c .body .inside) (c .body .inv) _ (path-deep (c .args .text .now .bytes .now) (c .body .store) (c .body .at) (c .body .base) (c .body .top) (c .body .depth) (c .body .inside) (c .in-Call .f) (c .in-Call .n) a (c .arguments-given .last .store) (c .arguments-given .result .0) (c .arguments-given .ensures .say) st (c .if-store-ne-GOING-2 .left) (c .if-inside .taken) (c .if-depth-eq0 .taken) refl) }
 
 pub value-give-requires : need.value-give-requires
 value-give-requires t c κs =
@@ -316,8 +311,8 @@ value-body-less t c =
       | value-then-inside·else-depth-eq0 w ↦ opened (c .body .base) (c .body .top) (c .body .depth) (c .body .inside) (c .if-inside .base) (c .if-inside .depth) (c .if-inside .inside) (w .if-inside .taken) (w .inside-is) (w .base-is) (let z = w .if-depth-eq0 .left in let y = w .depth-is in omega arith)
       | value-else-inside w ↦ replaced (c .body .base) (c .body .top) (c .body .depth) (c .body .inside) (c .if-inside .base) (c .if-inside .depth) (c .if-inside .inside) (w .if-inside .left) (w .inside-is) (w .base-is) (w .depth-is)
     ] in
-    let held = c .give .ensures (c .arguments-given .ensures .moved .well) (c .if-store-ne-GOING-4 .left) (c .arguments-given .ensures .there) in
-    let p = enters-leads (c .args .text .now .bytes .now) (c .body .store) (c .body .at) (c .body .base) (c .body .top) (c .body .depth) (c .body .inside) (c .in-Call .f) (c .in-Call .n) a (c .arguments-given .last .store) (c .arguments-given .result .0) (c .arguments-given .ensures .say) (c .if-store-ne-GOING-4 .left) (c .give .last .self) (c .body-at .result) (c .body-at .ensures .there) (c .if-inside .base) (c .if-inside .depth) (c .if-inside .inside) e held in
+    let held = c .give .ensures (c .arguments-given .ensures .moved .well) (c .if-store-ne-GOING-2 .left) (c .arguments-given .ensures .there) in
+    let p = enters-leads (c .args .text .now .bytes .now) (c .body .store) (c .body .at) (c .body .base) (c .body .top) (c .body .depth) (c .body .inside) (c .in-Call .f) (c .in-Call .n) a (c .arguments-given .last .store) (c .arguments-given .result .0) (c .arguments-given .ensures .say) (c .if-store-ne-GOING-2 .left) (c .give .last .self) (c .body-at .result) (c .body-at .ensures .there) (c .if-inside .base) (c .if-inside .depth) (c .if-inside .inside) e held in
     step-falls (c .args .text .now) (c .body .store) (c .body .at) (c .body .base) (c .body .top) (c .body .depth) (c .body .inside) (c .give .last .self) (c .body-at .result) (c .if-inside .base) (c .if-inside .base + c .in-Call .n) (c .if-inside .depth) (c .if-inside .inside) h p
 
 pub value-body-again : need.value-body-again
@@ -328,7 +323,7 @@ value-body-again t c =
       | value-then-inside·else-depth-eq0 w ↦ opened (c .body .base) (c .body .top) (c .body .depth) (c .body .inside) (c .if-inside .base) (c .if-inside .depth) (c .if-inside .inside) (w .if-inside .taken) (w .inside-is) (w .base-is) (let z = w .if-depth-eq0 .left in let y = w .depth-is in omega arith)
       | value-else-inside w ↦ replaced (c .body .base) (c .body .top) (c .body .depth) (c .body .inside) (c .if-inside .base) (c .if-inside .depth) (c .if-inside .inside) (w .if-inside .left) (w .inside-is) (w .base-is) (w .depth-is)
     ] in
-    let held = c .give .ensures (c .arguments-given .ensures .moved .well) (c .if-store-ne-GOING-4 .left) (c .arguments-given .ensures .there) in
-    let p = enters-leads (c .args .text .now .bytes .now) (c .body .store) (c .body .at) (c .body .base) (c .body .top) (c .body .depth) (c .body .inside) (c .in-Call .f) (c .in-Call .n) a (c .arguments-given .last .store) (c .arguments-given .result .0) (c .arguments-given .ensures .say) (c .if-store-ne-GOING-4 .left) (c .give .last .self) (c .body-at .result) (c .body-at .ensures .there) (c .if-inside .base) (c .if-inside .depth) (c .if-inside .inside) e held in
+    let held = c .give .ensures (c .arguments-given .ensures .moved .well) (c .if-store-ne-GOING-2 .left) (c .arguments-given .ensures .there) in
+    let p = enters-leads (c .args .text .now .bytes .now) (c .body .store) (c .body .at) (c .body .base) (c .body .top) (c .body .depth) (c .body .inside) (c .in-Call .f) (c .in-Call .n) a (c .arguments-given .last .store) (c .arguments-given .result .0) (c .arguments-given .ensures .say) (c .if-store-ne-GOING-2 .left) (c .give .last .self) (c .body-at .result) (c .body-at .ensures .there) (c .if-inside .base) (c .if-inside .depth) (c .if-inside .inside) e held in
     let wide = enters-wide (c .args .text .now) (c .body .store) (c .body .at) (c .body .base) (c .body .top) (c .body .depth) (c .body .inside) (c .if-inside .base) (c .if-inside .depth) (c .if-inside .inside) h (c .body .inv .ready) (c .body .inv .wide) (length (c .give .last .self .frames .now)) (held .moved .words ∙ c .arguments-given .ensures .moved .words) (c .body-at .result) (c .in-Call .n) (few-given (c .args .text .now) (c .body .store) (c .body .at) (c .body .base) (c .body .top) (c .body .depth) (c .body .inside) h (c .in-Call .f) (c .in-Call .n) a) (c .body-at .ensures .after) e in
     course-enters (c .args .text .now .bytes .now) (c .args .store .now) (c .args .at) (c .args .base) (c .args .top) (c .args .depth) (c .args .inside) (c .body .store) (c .body .at) (c .body .base) (c .body .top) (c .body .depth) (c .body .inside) (c .body .inv) (c .arguments-given .last .store) (c .give .last .self) (c .body-at .result) (c .if-inside .base) (c .in-Call .n) (c .if-inside .depth) (c .if-inside .inside) _ e (c .arguments-given .ensures .moved) held wide p

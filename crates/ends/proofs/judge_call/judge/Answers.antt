@@ -1,6 +1,6 @@
 use lib.ListN.{length}
 use Rattle.ends.proofs.Posts.{few-post, post, says-ends, says-none, ends-not-few, none-not-few, no-program-not-few, many-not-few}
-use Rattle.ends.proofs.judging.judge.Needs as need
+use Rattle.ends.proofs.judge_call.judge.Needs as need
 
 pub returns-then-too-few : need.returns-then-too-few
 returns-then-too-few c = few-post (c .args .program .now) (c .args .ways) (length (c .args .work .now)) (c .too-few .result) (c .too-few .ensures) (c .if-too-few .taken)
