@@ -14,14 +14,16 @@ fn main() -> Result<(), Box<dyn Error>> {
     println!("cargo::rerun-if-env-changed=PEGSIENNA_ARCHIVE");
     // An archive made elsewhere, as for a device, may be named instead.
     let archive = match env::var_os("PEGSIENNA_ARCHIVE") {
-        Some(path) => PathBuf::from(path),
+        Some(path) => {
+            println!("cargo::rerun-if-changed={}", Path::new(&path).display());
+            PathBuf::from(path)
+        }
         None => proved(root)?,
     };
-    println!("cargo::rerun-if-changed={}", archive.display());
     fs::copy(&archive, out.join("libends.a")).map_err(|e| format!("{}: {e}", archive.display()))?;
     println!("cargo::rustc-link-search=native={}", out.display());
     println!("cargo::rustc-link-lib=static=ends");
-    println!("cargo::metadata=archive={}", out.join("libends.a").display());
+    // for the test that builds the C example
     println!("cargo::rustc-env=PEGSIENNA_ARCHIVE_COPY={}", out.join("libends.a").display());
     Ok(())
 }
