@@ -7,7 +7,8 @@ use std::path::{Path, PathBuf};
 use std::process::Command;
 
 fn main() -> Result<(), Box<dyn Error>> {
-    let root = Path::new(env!("CARGO_MANIFEST_DIR")).parent().ok_or("the crate stands in no repository")?;
+    let host = PathBuf::from(env::var_os("CARGO_MANIFEST_DIR").ok_or("cargo gives no CARGO_MANIFEST_DIR")?);
+    let root = host.parent().ok_or("the crate stands in no repository")?;
     let out = PathBuf::from(env::var_os("OUT_DIR").ok_or("cargo gives no OUT_DIR")?);
     println!("cargo::rerun-if-changed={}", root.join("crates").display());
     println!("cargo::rerun-if-changed={}", root.join("crates.txt").display());
