@@ -32,7 +32,7 @@ struct Use {
     levels: usize,
 }
 
-/// Calls function 0 of a script with a number, on a fresh thread with the stack that the host would give it.
+/// Calls function 0 of a script with a number, on a fresh thread with more stack than the host would give it, so that using too much is seen.
 fn used(script: &[u8], depth: u32, number: usize, room: u32) -> Use {
     let nesting = Outline::of(script).unwrap().nesting;
     let args = Tree::number(number).to_bytes();
@@ -40,7 +40,7 @@ fn used(script: &[u8], depth: u32, number: usize, room: u32) -> Use {
     let mut memory = Memory::default();
     let (work, out) = memory.words_and_bytes(slices::go_words(script.len(), 99, args.len(), depth, room), 1 << 24);
     let given = stack::bytes(nesting, depth);
-    let (before, after) = stack::with(given, || {
+    let (before, after) = stack::with(4 * given, || {
         let before = touched();
         slices::go(script, 99, call, out, work).expect("a value");
         (before, touched())

@@ -43,7 +43,6 @@ fn judging_at_its_floor() {
             let mut work = vec![7; floor];
             assert_eq!(slices::judge(script, ways, &mut work[..floor - 1]), Verdict::Few);
             assert_eq!(slices::judge(script, ways, &mut []), Verdict::Few);
-            assert!(work.iter().all(|&word| word == 7) || work.len() == floor);
             assert_ne!(slices::judge(script, ways, &mut work), Verdict::Few);
         }
     }
