@@ -60,11 +60,11 @@ fn calls_stay_within_the_stack_they_are_given() {
     let again = [5, 0, 1, 0, 0];
     let down = |body: Vec<u8>| [vec![1, 3, 0, 1], body].concat();
     let shapes = [
-        ("a call in a node", down(within_nodes(1, &again)), 100_000),
-        ("a call that is bound", down([vec![4], again.to_vec(), vec![2, 1, 0, 0]].concat()), 100_000),
-        ("a call that is an argument", down([vec![5, 1, 1], again.to_vec(), vec![1, 2, 1, 0, 0]].concat()), 100_000),
-        ("a call in parts in a node", down([vec![2, 1, 3, 2, 1], vec![5, 0, 1, 0, 2]].concat()), 100_000),
-        ("a call in ten nodes", down(within_nodes(10, &again)), 30_000),
+        ("a call in a node", down(within_nodes(1, &again)), 20_000),
+        ("a call that is bound", down([vec![4], again.to_vec(), vec![2, 1, 0, 0]].concat()), 20_000),
+        ("a call that is an argument", down([vec![5, 1, 1], again.to_vec(), vec![1, 2, 1, 0, 0]].concat()), 20_000),
+        ("a call in parts in a node", down([vec![2, 1, 3, 2, 1], vec![5, 0, 1, 0, 2]].concat()), 20_000),
+        ("a call in ten nodes", down(within_nodes(10, &again)), 10_000),
         ("a call in a thousand nodes", down(within_nodes(1000, &again)), 300),
         ("a call in a thousand calls", [vec![1, 3, 0, 1], [5, 1, 1].repeat(1000), again.to_vec(), vec![1, 2, 1, 0, 0]].concat(), 300),
         ("a call in a thousand binds", [vec![1, 3, 0, 1], vec![4; 1000], again.to_vec(), [0, 0].repeat(1000)].concat(), 300),

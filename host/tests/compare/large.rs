@@ -46,7 +46,7 @@ fn a_million_calls_in_last_place() {
 #[test]
 fn deep_calls() {
     let copy = Script::new(COPY);
-    for depth in [1u32, 10, 1000, 50_000] {
+    for depth in [1u32, 10, 1000, 20_000] {
         let tree = Tree::number(depth as usize);
         let limits = |depth| Limits { depth, room: depth + 9 };
         assert!(copy.call(0, std::slice::from_ref(&tree), limits(depth)).unwrap().tree == tree);
