@@ -98,6 +98,9 @@ def main():
     for p in other:
         library |= foreign(read(p), own)[0]
     turn = {n: spelled(n) for n in defined if spelled(n) != n and n not in library and n not in made}
+    # a lemma that would have its function's name
+    turn = {n: t + "_lem" if t in library else t for n, t in turn.items()}
+    print("with _lem:", ", ".join(sorted(t for t in turn.values() if t.endswith("_lem"))) or "none")
     kept = sorted(n for n in defined if spelled(n) != n and n not in turn)
     clash = sorted((n, t) for n, t in turn.items() if t in defined and defined[t] & defined[n])
     for n, t in clash:
@@ -111,6 +114,7 @@ def main():
     if clash or any(len(ns) > 1 for ns in back.values()):
         raise SystemExit(1)
     word = re.compile(r"(?<![%s])([A-Za-z][%s]*)(?![%s])" % (LETTER, LETTER, LETTER))
+    step = re.compile(r"(?<![%s])(?<!\bc\.)([A-Za-z][%s]*)(?![%s])" % (LETTER, LETTER, LETTER))
     one = lambda m: turn.get(m.group(1), m.group(1))
     changed = 0
     for p in antt + other:
@@ -118,7 +122,8 @@ def main():
         if p.endswith(".rt"):
             new = "".join(s if i % 2 else word.sub(one, s) for i, s in enumerate(re.split(r'("(?:[^"\\\n]|\\.)*")', text)))
         else:
-            new = word.sub(one, text)
+            # behind 'c.' in an answer stand names that Rattle makes
+            new = (step if is_made(p, root) else word).sub(one, text)
         if new != text:
             changed += 1
             with open(p, "w", encoding="utf-8") as f:

@@ -39,13 +39,13 @@ bit_low a k r n h l = subst (λ (x : ℕ). bit (a * 2 ^ k + r) n ≡ bit ((a * 2
     e : suc (k - suc n) + n ≡ k
     e = omega arith
 
-pub bit_and : (a b n : ℕ) → bit (bit_and a b) n ≡ min (bit a n) (bit b n)
+pub bit_and_lem : (a b n : ℕ) → bit (bit_and a b) n ≡ min (bit a n) (bit b n)
 unfolding bit
-bit_and a b n = ap (λ (x : ℕ). x % 2) (and_shr a b n) ∙ omega (arith, and_step (a / 2 ^ n) (b / 2 ^ n))
+bit_and_lem a b n = ap (λ (x : ℕ). x % 2) (and_shr a b n) ∙ omega (arith, and_step (a / 2 ^ n) (b / 2 ^ n))
 
-pub bit_or : (a b n : ℕ) → bit (bit_or a b) n ≡ max (bit a n) (bit b n)
+pub bit_or_lem : (a b n : ℕ) → bit (bit_or a b) n ≡ max (bit a n) (bit b n)
 unfolding bit
-bit_or a b n = ap (λ (x : ℕ). x % 2) (or_shr a b n) ∙ omega (arith, or_step (a / 2 ^ n) (b / 2 ^ n))
+bit_or_lem a b n = ap (λ (x : ℕ). x % 2) (or_shr a b n) ∙ omega (arith, or_step (a / 2 ^ n) (b / 2 ^ n))
 
 -- a bit times a number
 bit_times : (b v n : ℕ) → b < 2 → bit (b * v) n ≡ min b (bit v n)
@@ -116,7 +116,7 @@ through_none x y i j hi hj = bit_of_zero (8 * i + j)
 
 pub through_more : (x y n r t : ℕ) → Through n x y r → ((i j : ℕ) → i < 8 → j < 8 → bit t (8 * i + j) ≡ min (bit x (8 * i + n)) (bit y (8 * n + j))) → Through (n + 1) x y (bit_or r t)
 unfolding sup
-through_more x y n r t h g i j hi hj = rw add-one (omega (arith, bit_or r t (8 * i + j), h i j hi hj, g i j hi hj))
+through_more x y n r t h g i j hi hj = rw add-one (omega (arith, bit_or_lem r t (8 * i + j), h i j hi hj, g i j hi hj))
 
 pub through_all : (x y n r : ℕ) → Through n x y r → n ≡ 8 → Through 8 x y r
 through_all x y n r h e = subst (λ (m : ℕ). Through m x y r) e h

@@ -10,7 +10,7 @@ use Rattle.sizechange.proofs.Arcs.{sup, thru, thru_is, sup_cong, leads_compose, 
 use Rattle.graphs.specs.Bits.{bit}
 use Rattle.graphs.specs.Words.{Words, Through}
 use Rattle.graphs.specs.declared.Graph.{Graph}
-use Rattle.graphs.proofs.Bits.{bit_below, bit_or, bits_same, some_bit, bit_and, bit_of_zero, bit_power_here, bit_power_other}
+use Rattle.graphs.proofs.Bits.{bit_below, bit_or_lem, bits_same, some_bit, bit_and_lem, bit_of_zero, bit_power_here, bit_power_other}
 
 -- a level of one place in the middle: leads are sums of two bits
 thru_sum : (a p b q : ℕ) → a < 2 → b < 2 → p ≤ a → q ≤ b → thru (a + p) (b + q) ≡ min a b + max (min p b) (min a q)
@@ -58,7 +58,7 @@ words_compose x y r p q as₁ bs fa fp ta tp tq e wx wy = record { fine = fine_c
         let s = sup_sum 8 a c b d (λ m l. bit_below x.any (8 * i + m)) (λ m l. bit_below y.any (8 * m + j)) (λ m l. wx.within i m hi l) (λ m l. wy.within m j l hj) in
         let way = leads_compose as₁ bs i j wx.fine wy.fine ∙ sup_cong 8 (λ m. thru (leads as₁ i m) (leads bs m j)) (λ m. thru (a m + c m) (b m + d m)) (λ m l. ap₂ thru (wx.lead i m hi l) (wy.lead m j l hj)) in
         let any = ta i j hi hj in
-        let part : bit r.part (8 * i + j) ≡ max (sup 8 (λ m. min (c m) (b m))) (sup 8 (λ m. min (a m) (d m))) = ap (λ (z : ℕ). bit z (8 * i + j)) e ∙ bit_or p q (8 * i + j) ∙ ap₂ max (tp i j hi hj) (tq i j hi hj) in
+        let part : bit r.part (8 * i + j) ≡ max (sup 8 (λ m. min (c m) (b m))) (sup 8 (λ m. min (a m) (d m))) = ap (λ (z : ℕ). bit z (8 * i + j)) e ∙ bit_or_lem p q (8 * i + j) ∙ ap₂ max (tp i j hi hj) (tq i j hi hj) in
         (way ∙ s.sum ∙ ap₂ (λ (u v : ℕ). u + v) (sym any) (sym part), rw (part, any) s.within)
 
 -- Two graphs in words lead alike where their words are the same, and only there.
@@ -109,7 +109,7 @@ unfolding ninth
 shrinks g as₁ w h =
     let b = some_bit 64 (bit_and g.part diagonal) (and_lt 64 g.part diagonal w.part_fits (lit< tt)) h in
     let n = b.0 in
-    let both = sym (bit_and g.part diagonal n) ∙ b.2 in
+    let both = sym (bit_and_lem g.part diagonal n) ∙ b.2 in
     let at : n % 9 ≡ 0 = elim (eqb_tells (n % 9) 0) [ inl y ↦ y.1 | inr z ↦ absurd (omega (arith, cond-false {A = ℕ} (eqb (n % 9) 0) 1 0 z.0, diagonal_bit n b.1, both)) ] in
     let e : 8 * (n / 9) + n / 9 ≡ n = omega arith in
     let p : bit g.part (8 * (n / 9) + n / 9) ≡ 1 = ap (bit g.part) e ∙ omega (arith, both, bit_below g.part n) in
@@ -124,7 +124,7 @@ not_shrinks g as₁ w h i e = go (cases_lt i 8)
         let n : ℕ = 8 * i + i in
         let none : bit (bit_and g.part diagonal) n ≡ 0 = ap (λ (x : ℕ). bit x n) h ∙ bit_of_zero n in
         let d : bit diagonal n ≡ 1 = diagonal_bit n (omega arith) ∙ cond-true (eqb (n % 9) 0) 1 0 (eq-eqb (n % 9) 0 (omega arith)) in
-        omega (arith, none, bit_and g.part diagonal n, d, w.lead i i l l, bit_below g.any n, e)
+        omega (arith, none, bit_and_lem g.part diagonal n, d, w.lead i i l l, bit_below g.any n, e)
     go (inr l) = omega (arith, leads_outside i i w.fine (inl l), e)
 
 -- One arc more.
@@ -163,10 +163,10 @@ words_push g arc t a fa is how as₁ w = record { fine = fine; any_fits = or_lt 
     fine b i = elim (in_append as₁ (a ∷ []) i) [ inl j ↦ w.fine b j | inr j ↦ elim (in_cons j) [ inl p ↦ subst (FineArc 8) (sym p) fa | inr k ↦ elim k [ ] ] ]
 
     any : (n : ℕ) → bit (bit_or g.any arc) n ≡ max (bit g.any n) (bit (2 ^ m) n)
-    any n = bit_or g.any arc n ∙ ap (λ (x : ℕ). max (bit g.any n) (bit x n)) is
+    any n = bit_or_lem g.any arc n ∙ ap (λ (x : ℕ). max (bit g.any n) (bit x n)) is
 
     part : (n : ℕ) → bit (bit_or g.part t) n ≡ max (bit g.part n) (bit t n)
-    part n = bit_or g.part t n
+    part n = bit_or_lem g.part t n
 
     here_bit : bit t m + 1 ≡ a.how
     here_bit = elim how [ inl x ↦ omega (arith, ap (λ (y : ℕ). bit y m) x.1, bit_of_zero m) | inr x ↦ omega (arith, ap (λ (y : ℕ). bit y m) (x.1 ∙ is), bit_power_here m) ]

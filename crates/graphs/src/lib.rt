@@ -1,4 +1,6 @@
 //! Size-change graphs between eight places, in two words of 64 bits.
+#![tactic(auto)]
+
 ghost use Rattle.std.specs.Prelude.{◌≡◌, ℕ, ◌+◌, ◌*◌, ◌^◌, ◌<◌, ◌≤◌, min, List, [], ◌∷◌, ◌++◌, Decides};
 ghost use Rattle.graphs.specs.Bits.{bit};
 ghost use Rattle.graphs.specs.Words.{Through, Words, places};

@@ -1,8 +1,7 @@
 -- Functions found one after another.
-use Rattle.std.proofs.Common.{◌≡◌, ℕ, zero, suc, ◌+◌, ◌-◌, ◌<◌, ◌≤◌, T, ◌⊎◌, List, [], ◌∷◌, ◌++◌, length, get_or, drop, set, Some, None, Option, sym, refl, ap, ◌∙◌, subst, inl, inr, ⊎_elim, append_assoc, append-nil, arith, leb→le, length-append, length-drop}
+use Rattle.std.proofs.Common.{◌≡◌, ℕ, zero, suc, ◌+◌, ◌<◌, ◌≤◌, T, ◌⊎◌, List, [], ◌∷◌, ◌++◌, length, get_or, drop, set, Some, None, sym, refl, ap, ◌∙◌, subst, inl, inr, ⊎_elim, append_assoc, append-nil, arith, leb→le, length-append}
 use mathlib.Core.Option as opt
 use Rattle.std.proofs.lemmas.List.{drop_all, drop_more, get_or-set_same, get_or-set_other}
-use Rattle.std.proofs.lemmas.Bool.{cases_eq}
 use Rattle.sizechange.specs.Graph.{nth}
 use Rattle.sizechange.proofs.Lists.{nth_below}
 use Rattle.lang.specs.Program.{Expr, Fun, Prog, max_args, max_functions}
@@ -10,7 +9,7 @@ use Rattle.lang.specs.Reads.{Reads}
 use Rattle.lang.specs.Bytes.{Program, bytes_of_expr, bytes_of_prog, all_ok}
 use Rattle.lang.proofs.Reading.{reads_one, reads_ok, reads_bytes, body_ok, fine_parts}
 use Rattle.reading.specs.Ends.{EndOf}
-use Rattle.reading.specs.Functions.{Functions, f_none, f_more, StandsAt, Starts, Found, FoundOr}
+use Rattle.reading.specs.Functions.{Functions, f_none, f_more, StandsAt, Starts, Found}
 
 -- a way to say that the functions fs stand before place k
 pub record Before (s : List ℕ) (fs : List Fun) (k : ℕ) (starts : List ℕ) (n : ℕ) : Type 0 where

@@ -1,5 +1,5 @@
 -- What the first bytes of an expression say about it.
-use Rattle.std.proofs.Common.{◌≡◌, ℕ, zero, suc, ◌+◌, ◌-◌, ◌<◌, ◌≤◌, List, [], ◌∷◌, ◌++◌, length, get_or, drop, Some, None, Option, sym, refl, ap, ◌∙◌, subst, subst₂, add-zero, arith, lit≤, length-drop}
+use Rattle.std.proofs.Common.{◌≡◌, ℕ, ◌+◌, ◌-◌, ◌<◌, ◌≤◌, List, ◌∷◌, ◌++◌, length, get_or, drop, Some, None, Option, sym, refl, ap, ◌∙◌, subst, subst₂, add-zero, arith, lit≤, length-drop}
 use Rattle.std.proofs.lemmas.List.{get_or-drop, drop_more}
 use Rattle.lang.specs.Program.{Expr, var, a_leaf, a_node, parts, bind, call, Exprs, nil, cons, max_args}
 use Rattle.lang.specs.Reads.{Reads, ReadsAll, r_var, r_leaf, r_node, r_parts, r_bind, r_call, r_nil, r_cons}

@@ -1,10 +1,10 @@
 -- The least numbers of variables in view, put together.
-use Rattle.std.proofs.Common.{◌≡◌, ℕ, zero, suc, ◌+◌, ◌-◌, ◌<◌, ◌≤◌, max, Bool, true, false, ◌&&◌, T, ltb, ◌⊎◌, List, [], ◌∷◌, length, get_or, drop, set, Some, None, sym, refl, ap, ◌∙◌, subst, inl, inr, ⊎_elim, add-zero, zero-add, arith, ltb→lt, lt→ltb}
+use Rattle.std.proofs.Common.{◌≡◌, ℕ, suc, ◌+◌, ◌-◌, ◌<◌, ◌≤◌, max, Bool, true, false, ◌&&◌, T, ltb, List, length, get_or, drop, set, Some, None, sym, refl, ap, ◌∙◌, subst, ⊎_elim, add-zero, zero-add, arith, ltb→lt, lt→ltb}
 use Rattle.std.proofs.lemmas.List.{get_or-set_same, get_or-set_other}
 use Rattle.std.proofs.lemmas.Bool.{cases_eq}
-use Rattle.lang.specs.Program.{Expr, Exprs, nil, cons, Prog}
+use Rattle.lang.specs.Program.{Exprs, Prog}
 use Rattle.lang.specs.Bytes.{ok, oks}
-use Rattle.lang.specs.Reads.{Reads, ReadsAll, r_nil, r_cons}
+use Rattle.lang.specs.Reads.{Reads, ReadsAll, r_nil}
 use Rattle.lang.proofs.Lists.{both, from_both}
 use Rattle.lang.proofs.Reading.{reads_one}
 use Rattle.reading.specs.Ends.{EndOf}

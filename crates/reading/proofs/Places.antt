@@ -1,16 +1,15 @@
 -- What the expression at a place needs, by its head.
-use Rattle.std.proofs.Common.{◌≡◌, ℕ, zero, suc, ◌+◌, ◌-◌, ◌<◌, ◌≤◌, Bool, true, false, ◌&&◌, T, eqb, ltb, leb, ◌⊎◌, List, [], ◌∷◌, length, get_or, take, drop, Some, None, sym, refl, ap, ◌∙◌, subst, inl, inr, ⊎_elim, add-zero, arith, le→leb, length-append, length-drop}
+use Rattle.std.proofs.Common.{◌≡◌, ℕ, zero, suc, ◌+◌, ◌-◌, ◌<◌, ◌≤◌, Bool, true, false, ◌&&◌, T, eqb, ltb, leb, ◌⊎◌, List, [], ◌∷◌, length, get_or, take, drop, Some, sym, refl, ap, ◌∙◌, subst, inl, inr, ⊎_elim, add-zero, arith, le→leb, length-append, length-drop}
 use mathlib.Core.Option as opt
 use Rattle.std.proofs.lemmas.List.{length-take-le, get_or-take, take_at}
 use Rattle.sizechange.specs.Graph.{nth}
 use Rattle.std.proofs.lemmas.Bool.{le-leb, lt-leb, cases_lt}
 use Rattle.sizechange.proofs.Lists.{nth_some, nth_below}
-use Rattle.lang.specs.Program.{Expr, var, a_leaf, a_node, parts, bind, call, Exprs, nil, cons, Prog, Fun, count, max_args, max_functions, max_bytes}
+use Rattle.lang.specs.Program.{Expr, Prog, Fun, max_args, max_functions, max_bytes}
 use Rattle.lang.specs.Bytes.{ok, oks, takes, all_ok, bytes_of_expr, Program}
-use Rattle.lang.specs.Reads.{Reads, ReadsAll, r_nil, r_cons}
+use Rattle.lang.specs.Reads.{Reads, r_nil, r_cons}
 use Rattle.lang.proofs.Lists.{from_both}
 use Rattle.lang.proofs.Reading.{reads_all_bytes, reads_bytes, reads_one, body_ok, fine_parts}
-use Rattle.reading.specs.declared.head.Head.{Head}
 use Rattle.reading.specs.declared.head.Head.TheVariants.{Var, Leaf, Node, Parts, Bind, Call}
 use Rattle.reading.specs.Ends.{EndsFrom, EndWord}
 use Rattle.reading.specs.Heads.{HeadAt}

@@ -1,5 +1,5 @@
 -- Where expressions end.
-use Rattle.std.specs.Prelude.{◌≡◌, ℕ, ◌+◌, ◌<◌, ◌≤◌, List, length, drop, Some, None, Option, slice_index}
+use Rattle.std.specs.Prelude.{◌≡◌, ℕ, ◌<◌, ◌≤◌, List, length, drop, Some, None, Option, slice_index}
 use Rattle.lang.specs.Program.{Expr, Exprs}
 use Rattle.lang.specs.Reads.{Reads, ReadsAll}
 

@@ -1,5 +1,5 @@
 -- What a script that was read leaves in memory.
-use Rattle.std.specs.Prelude.{ℕ, List, length, take, Some, None, Option}
+use Rattle.std.specs.Prelude.{ℕ, List, Some, None, Option}
 use Rattle.lang.specs.Program.{Prog}
 use Rattle.lang.specs.Bytes.{Program}
 use Rattle.reading.specs.Ends.{EndsFrom}

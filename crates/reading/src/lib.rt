@@ -1,4 +1,6 @@
 // Reads a script: bytes to where its functions start and where its expressions end.
+#![tactic(auto)]
+
 mod bodies;
 pub mod ends;
 pub mod functions;

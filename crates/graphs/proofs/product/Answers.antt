@@ -6,7 +6,7 @@ pub loop-k-init : goal.loop-k-init
 loop-k-init c = through_none c.args.x c.args.y
 
 pub loop-k-preserved : goal.loop-k-preserved
-loop-k-preserved c = through_more c.args.x c.args.y c.loop-k.k c.loop-k.all c.through_all.result c.loop-k.invariant c.through_all.ensures
+loop-k-preserved c = through_more c.args.x c.args.y c.loop-k.k c.loop-k.all c.through-all.result c.loop-k.invariant c.through-all.ensures
 
 pub returns : goal.returns
 returns c = through_all c.args.x c.args.y c.loop-k.k c.loop-k.all c.loop-k.invariant (omega arith)

@@ -47,8 +47,8 @@ returns-in-1 c =
     let says = subst (λ (k : ℕ). Says c.args.text.now.bytes.now (task c.open.new.self c.body-at.result 0 (length c.args.given.now) c.args.depth false) (outcome k (tree c.value-root.new.store.nodes.now c.value-root.result) (room c.value-root.new.store))) c.in-1.is c.value-root.ensures.says in
     record { grown = m.grown; comes = run_calls c.args.text.now.bytes.now c.args.f (length c.args.given.now) c.body-at.result c.args.depth (env c.args.store.now.nodes.now c.args.given.now (length c.args.given.now)) c.requires.takes c.body-at.ensures.there (length_env c.args.store.now.nodes.now c.args.given.now (length c.args.given.now)) c.args.store.now c.open.new.self held (full) says }
 
-pub returns-in-default : goal.returns-in-default
-returns-in-default c =
+pub returns-in_default : goal.returns-in_default
+returns-in_default c =
     let held = c.open.ensures c.requires.well c.requires.going c.requires.there in
     let m = moved_then 0 0 c.args.store.now c.open.new.self c.value-root.new.store held.moved c.value-root.ensures.moved (omega arith) in
     let says = stopped-deep c.args.text.now.bytes.now c.open.new.self c.body-at.result (length c.args.given.now) c.args.depth c.value-root.new.store.stop (tree c.value-root.new.store.nodes.now c.value-root.result) (room c.value-root.new.store) (grind arith) c.value-root.ensures.says in

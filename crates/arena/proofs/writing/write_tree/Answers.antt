@@ -9,17 +9,17 @@ loop-i-init c = (starts c.args.nodes.now c.count.new.stack c.args.root.0 c.requi
 pub step-requires : goal.step-requires
 step-requires c =
     let w = c.loop-i.walk in
-    let size = c.in-ok-size.ensures in
+    let size = c.in_ok-size.ensures in
     let long = ap length (start_bytes c.args.nodes.now c.count.new.stack c.args.root.0) in
     record { walking = c.loop-i.invariant.0; more = more_left w.nodes.now w.stack.now w.top.0 w.height (some_rest _ _ _ _ _ c.loop-i.invariant.1 (omega arith) (omega arith)) }
 
 pub loop-i-preserved : goal.loop-i-preserved
-loop-i-preserved c = (c.step.ensures.walking, write_one _ _ _ _ _ _ _ c.loop-i.invariant.1 c.step.ensures.byte (omega (arith, c.in-ok-size.ensures)))
+loop-i-preserved c = (c.step.ensures.walking, write_one _ _ _ _ _ _ _ c.loop-i.invariant.1 c.step.ensures.byte (omega (arith, c.in_ok-size.ensures)))
 
 pub returns : goal.returns
 returns c =
-    let size = c.in-ok-size.ensures in
+    let size = c.in_ok-size.ensures in
     let whole = start_bytes c.args.nodes.now c.count.new.stack c.args.root.0 in
     let long = ap length whole in
-    let done = all_written _ _ _ _ _ c.loop-i.invariant.1 c.in-ok-size.size (omega arith) (omega arith) (omega arith) in
+    let done = all_written _ _ _ _ _ c.loop-i.invariant.1 c.in_ok-size.size (omega arith) (omega arith) (omega arith) in
     record { size = size.0; bytes = done.0 ∙ whole; others = done.1 }

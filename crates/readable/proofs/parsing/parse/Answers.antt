@@ -13,13 +13,13 @@ byte-requires c =
     let long = length-set c.args.stack.now 0 Item in
     record { room = omega (arith, r.higher, r.kept.stack_long); within = r.kept.within; waits = r.waits }
 
-pub returns-in-err-number : goal.returns-in-err-number
-returns-in-err-number c =
-    let e = err_from_is_err_and c.from-residual.result c.from-residual.ensures.1 in
-    rw (e.1, e.2) (byte_refused c.args.text.now c.loop-i.i c.loop-i.number _ c.loop-i.parser c.loop-i.invariant c.in-err-number.field-0.0 (length c.args.stack.now) c.loop-i-test.true c.in-err-number.ensures)
+pub returns-in_err-number : goal.returns-in_err-number
+returns-in_err-number c =
+    let e = err_from_is_err_and c.from_residual.result c.from_residual.ensures.1 in
+    rw (e.1, e.2) (byte_refused c.args.text.now c.loop-i.i c.loop-i.number _ c.loop-i.parser c.loop-i.invariant c.in_err-number.field-0.0 (length c.args.stack.now) c.loop-i-test.true c.in_err-number.ensures)
 
 pub loop-i-preserved : goal.loop-i-preserved
-loop-i-preserved c = reading_more c.args.text.now c.loop-i.i c.loop-i.number _ c.loop-i.parser c.loop-i.invariant c.in-ok-number.number c.byte.new.self c.loop-i-test.true c.in-ok-number.ensures
+loop-i-preserved c = reading_more c.args.text.now c.loop-i.i c.loop-i.number _ c.loop-i.parser c.loop-i.invariant c.in_ok-number.number c.byte.new.self c.loop-i-test.true c.in_ok-number.ensures
 
 pub end-requires : goal.end-requires
 end-requires c =

@@ -2,11 +2,11 @@ use Rattle.std.proofs.Common.{arith}
 use Rattle.reading.proofs.Finding.{before_more, before_all, before_no, before_many}
 use Rattle.reading.proofs.functions.find_functions.Goals as goal
 
-pub returns-then-n-ge-MAX-FUNCTIONS : goal.returns-then-n-ge-MAX-FUNCTIONS
-returns-then-n-ge-MAX-FUNCTIONS c = before_many c.args.bytes.now c.loop-at.invariant.0 c.loop-at.at c.loop-at.starts c.loop-at.n c.loop-at.invariant.1 (omega arith) (omega arith)
+pub returns-then-n-ge-MAX_FUNCTIONS : goal.returns-then-n-ge-MAX_FUNCTIONS
+returns-then-n-ge-MAX_FUNCTIONS c = before_many c.args.bytes.now c.loop-at.invariant.0 c.loop-at.at c.loop-at.starts c.loop-at.n c.loop-at.invariant.1 (omega arith) (omega arith)
 
-pub returns-then-bytes-at-gt-MAX-ARGS : goal.returns-then-bytes-at-gt-MAX-ARGS
-returns-then-bytes-at-gt-MAX-ARGS c p h = absurd (before_no c.args.bytes.now c.loop-at.invariant.0 c.loop-at.at c.loop-at.starts c.loop-at.n c.loop-at.invariant.1 (omega arith) (λ l. absurd (omega arith)) p h)
+pub returns-then-bytes-at-gt-MAX_ARGS : goal.returns-then-bytes-at-gt-MAX_ARGS
+returns-then-bytes-at-gt-MAX_ARGS c p h = absurd (before_no c.args.bytes.now c.loop-at.invariant.0 c.loop-at.at c.loop-at.starts c.loop-at.n c.loop-at.invariant.1 (omega arith) (λ l. absurd (omega arith)) p h)
 
 pub loop-at-preserved : goal.loop-at-preserved
 loop-at-preserved c = (_, before_more c.args.bytes.now c.loop-at.invariant.0 c.loop-at.at c.loop-at.starts c.loop-at.n c.in-Some.end c.loop-at.invariant.1 (omega arith) (omega arith) (omega arith) c.in-Some.ensures (omega arith))

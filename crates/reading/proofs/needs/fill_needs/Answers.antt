@@ -9,5 +9,5 @@ loop-at-preserved c =
       omega arith,
       λ p h.
           let d = subst (λ (n : ℕ). NeedsFrom p c.args.bytes.now c.loop-at.needs n) e (c.loop-at.invariant.1 p h) in
-          needs_more p c.args.bytes.now c.loop-at.needs (c.loop-at.at - 1) c.need-at.result (omega arith) d (c.need-at.ensures p h d),
+          needs_more p c.args.bytes.now c.loop-at.needs (c.loop-at.at - 1) c.need_at.result (omega arith) d (c.need_at.ensures p h d),
     )

@@ -1,4 +1,4 @@
-use Rattle.std.proofs.Common.{◌≡◌, Some, sym, ◌∙◌, subst, arith}
+use Rattle.std.proofs.Common.{Some, sym, ◌∙◌, subst, arith}
 use Rattle.reading.specs.declared.head.Head.{Head}
 use Rattle.reading.specs.Heads.{HeadAt}
 use Rattle.reading.proofs.Places.{need_var, need_leaf, need_node, need_parts, need_bind, need_call, need_no_call}
@@ -11,16 +11,16 @@ pub returns-in-Leaf : goal.returns-in-Leaf
 returns-in-Leaf c p h d = need_leaf p c.args.bytes.now c.args.at (subst (λ (k : Head). HeadAt c.args.bytes.now c.args.at (Some k)) c.in-Leaf.is c.requires.stands)
 
 pub returns-in-Node : goal.returns-in-Node
-returns-in-Node c p h d = need_node p c.args.bytes.now c.args.at c.need-of-two.result (subst (λ (k : Head). HeadAt c.args.bytes.now c.args.at (Some k)) c.in-Node.is c.requires.stands) (c.need-of-two.ensures p d)
+returns-in-Node c p h d = need_node p c.args.bytes.now c.args.at c.need_of_two.result (subst (λ (k : Head). HeadAt c.args.bytes.now c.args.at (Some k)) c.in-Node.is c.requires.stands) (c.need_of_two.ensures p d)
 
 pub returns-in-Parts : goal.returns-in-Parts
-returns-in-Parts c p h d = need_parts p c.args.bytes.now c.args.at c.in-Parts.i c.need-of-two-in-Parts.result c.larger.result (subst (λ (k : Head). HeadAt c.args.bytes.now c.args.at (Some k)) c.in-Parts.is c.requires.stands) (c.need-of-two-in-Parts.ensures p (λ j l. d j (omega arith))) c.larger.ensures
+returns-in-Parts c p h d = need_parts p c.args.bytes.now c.args.at c.in-Parts.i c.need_of_two-in-Parts.result c.larger.result (subst (λ (k : Head). HeadAt c.args.bytes.now c.args.at (Some k)) c.in-Parts.is c.requires.stands) (c.need_of_two-in-Parts.ensures p (λ j l. d j (omega arith))) c.larger.ensures
 
 pub returns-in-Bind : goal.returns-in-Bind
-returns-in-Bind c p h d = need_bind p c.args.bytes.now c.args.at c.need-of-two-in-Bind.result (subst (λ (k : Head). HeadAt c.args.bytes.now c.args.at (Some k)) c.in-Bind.is c.requires.stands) (c.need-of-two-in-Bind.ensures p d)
+returns-in-Bind c p h d = need_bind p c.args.bytes.now c.args.at c.need_of_two-in-Bind.result (subst (λ (k : Head). HeadAt c.args.bytes.now c.args.at (Some k)) c.in-Bind.is c.requires.stands) (c.need_of_two-in-Bind.ensures p d)
 
-pub returns-then-takes-args : goal.returns-then-takes-args
-returns-then-takes-args c p h d = need_call p c.args.bytes.now c.args.at c.in-Call.f c.in-Call.n c.need-of-all.result (subst (λ (k : Head). HeadAt c.args.bytes.now c.args.at (Some k)) c.in-Call.is c.requires.stands) (sym c.if-takes-args.true ∙ c.takes_args.ensures p h) (c.need-of-all.ensures p (λ j l. d j (omega arith)))
+pub returns-then-takes_args : goal.returns-then-takes_args
+returns-then-takes_args c p h d = need_call p c.args.bytes.now c.args.at c.in-Call.f c.in-Call.n c.need_of_all.result (subst (λ (k : Head). HeadAt c.args.bytes.now c.args.at (Some k)) c.in-Call.is c.requires.stands) (sym c.if-takes_args.true ∙ c.takes_args.ensures p h) (c.need_of_all.ensures p (λ j l. d j (omega arith)))
 
-pub returns-else-takes-args : goal.returns-else-takes-args
-returns-else-takes-args c p h d = need_no_call p c.args.bytes.now c.args.at c.in-Call.f c.in-Call.n (subst (λ (k : Head). HeadAt c.args.bytes.now c.args.at (Some k)) c.in-Call.is c.requires.stands) (sym c.if-takes-args.false ∙ c.takes_args.ensures p h)
+pub returns-else-takes_args : goal.returns-else-takes_args
+returns-else-takes_args c p h d = need_no_call p c.args.bytes.now c.args.at c.in-Call.f c.in-Call.n (subst (λ (k : Head). HeadAt c.args.bytes.now c.args.at (Some k)) c.in-Call.is c.requires.stands) (sym c.if-takes_args.false ∙ c.takes_args.ensures p h)

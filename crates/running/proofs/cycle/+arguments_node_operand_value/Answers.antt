@@ -185,8 +185,8 @@ value-body-preserved-then-whole-eq0 t c =
     let p = path_parts_leaf c.args.text.now.bytes.now c.body.store c.body.at c.body.base c.body.top c.body.depth c.body.inside c.in-Parts.i c.variable-whole.result a is c.if-whole-eq0.true in
     course_step c.args.text.now.bytes.now c.args.store.now c.args.at c.args.base c.args.top c.args.depth c.args.inside c.body.store c.body.at c.body.base c.body.top c.body.depth c.body.inside c.body.invariant c.body.store (c.body.at + 2) c.body.base c.body.top c.body.depth c.body.inside c.body.invariant.ready (wide_part c.args.text.now.bytes.now (length c.body.store.frames.now) (length c.body.store.frames.now) c.body.at c.body.base c.body.top c.body.depth c.body.invariant.wide refl (c.body.at + 2) (omega arith)) (moved_same _ c.body.store c.body.base c.body.top c.body.invariant.ready) (omega arith) p
 
-pub value-keep-parts-requires : goal.value-keep-parts-requires
-value-keep-parts-requires t c =
+pub value-keep_parts-requires : goal.value-keep_parts-requires
+value-keep_parts-requires t c =
     let h = course_stands c.args.text.now.bytes.now c.args.store.now c.args.at c.args.base c.args.top c.args.depth c.args.inside c.body.store c.body.at c.body.base c.body.top c.body.depth c.body.inside c.body.invariant c.requires.stands in
     let a = c.in-Parts.ensures in
     let v = parts_view c.args.text.now c.body.store c.body.at c.body.base c.body.top c.body.depth c.body.inside h c.in-Parts.i a in
@@ -207,9 +207,9 @@ value-body-smaller-in-Parts t c =
     let is = c.variable-whole.ensures.is c.body.base c.body.invariant.ready v in
     let nd = c.variable-whole.ensures.there c.body.base c.body.invariant.ready v in
     let q = tree_parts c.body.store.nodes.now c.body.store.used c.body.invariant.ready.well.sound c.variable-whole.result (let z = c.if-whole-eq0.false in omega arith) nd in
-    let held = c.keep-parts.ensures c.body.base c.body.invariant.ready in
-    let p = path_parts_node c.args.text.now.bytes.now c.body.store c.body.at c.body.base c.body.top c.body.depth c.body.inside c.in-Parts.i c.variable-whole.result c.end-at.result c.keep-parts.new.self a c.end-at.ensures is (is_node _ _ _ q.whole) held in
-    step_falls c.args.text.now c.body.store c.body.at c.body.base c.body.top c.body.depth c.body.inside c.keep-parts.new.self c.end-at.result c.body.base (c.body.top + 2) c.body.depth c.body.inside h p
+    let held = c.keep_parts.ensures c.body.base c.body.invariant.ready in
+    let p = path_parts_node c.args.text.now.bytes.now c.body.store c.body.at c.body.base c.body.top c.body.depth c.body.inside c.in-Parts.i c.variable-whole.result c.end-at.result c.keep_parts.new.self a c.end-at.ensures is (is_node _ _ _ q.whole) held in
+    step_falls c.args.text.now c.body.store c.body.at c.body.base c.body.top c.body.depth c.body.inside c.keep_parts.new.self c.end-at.result c.body.base (c.body.top + 2) c.body.depth c.body.inside h p
 
 pub value-body-preserved-in-Parts : goal.value-body-preserved-in-Parts
 value-body-preserved-in-Parts t c =
@@ -219,10 +219,10 @@ value-body-preserved-in-Parts t c =
     let is = c.variable-whole.ensures.is c.body.base c.body.invariant.ready v in
     let nd = c.variable-whole.ensures.there c.body.base c.body.invariant.ready v in
     let q = tree_parts c.body.store.nodes.now c.body.store.used c.body.invariant.ready.well.sound c.variable-whole.result (let z = c.if-whole-eq0.false in omega arith) nd in
-    let held = c.keep-parts.ensures c.body.base c.body.invariant.ready in
-    let p = path_parts_node c.args.text.now.bytes.now c.body.store c.body.at c.body.base c.body.top c.body.depth c.body.inside c.in-Parts.i c.variable-whole.result c.end-at.result c.keep-parts.new.self a c.end-at.ensures is (is_node _ _ _ q.whole) held in
+    let held = c.keep_parts.ensures c.body.base c.body.invariant.ready in
+    let p = path_parts_node c.args.text.now.bytes.now c.body.store c.body.at c.body.base c.body.top c.body.depth c.body.inside c.in-Parts.i c.variable-whole.result c.end-at.result c.keep_parts.new.self a c.end-at.ensures is (is_node _ _ _ q.whole) held in
     let l = c.end-at.ensures.after in
-    course_up c.args.text.now.bytes.now c.args.store.now c.args.at c.args.base c.args.top c.args.depth c.args.inside c.body.store c.body.at c.body.base c.body.top c.body.depth c.body.inside c.body.invariant c.keep-parts.new.self c.end-at.result (c.body.top + 2) held.ready (wide_two c.args.text.now.bytes.now (length c.body.store.frames.now) (length c.keep-parts.new.self.frames.now) c.body.at c.body.base c.body.top c.body.depth c.body.invariant.wide held.moved.words c.end-at.result (omega arith)) held.moved (omega arith) p
+    course_up c.args.text.now.bytes.now c.args.store.now c.args.at c.args.base c.args.top c.args.depth c.args.inside c.body.store c.body.at c.body.base c.body.top c.body.depth c.body.inside c.body.invariant c.keep_parts.new.self c.end-at.result (c.body.top + 2) held.ready (wide_two c.args.text.now.bytes.now (length c.body.store.frames.now) (length c.keep_parts.new.self.frames.now) c.body.at c.body.base c.body.top c.body.depth c.body.invariant.wide held.moved.words c.end-at.result (omega arith)) held.moved (omega arith) p
 
 pub value-operand-bound-requires : goal.value-operand-bound-requires
 value-operand-bound-requires t c =

@@ -9,7 +9,7 @@ use Rattle.readable.proofs.parsing.Parser.byte.Goals as goal
 pub returns-in-err-n : goal.returns-in-err-n
 returns-in-err-n c =
     let p = c.args.self.now in
-    let e = err_from_is_err_and c.from-residual.result c.from-residual.ensures.1 in
+    let e = err_from_is_err_and c.from_residual.result c.from_residual.ensures.1 in
     rw (e.1, e.2) (stopped_as c.in-err-n.field-0.0 c.args.place _ (digit_lex c.args.number c.args.c c.in-Digit.d (to_come p) (sym c.in-Digit.ensures)) c.in-err-n.ensures)
 
 pub returns-in-err-flush : goal.returns-in-err-flush

@@ -3,8 +3,8 @@ use Rattle.readable.specs.Text.{more_digits}
 use Rattle.readable.proofs.Turns.{no_number, large_number}
 use Rattle.readable.proofs.parsing.Parser.digit.Goals as goal
 
-pub returns-in-default : goal.returns-in-default
-returns-in-default c = (refl, no_number c.args.self.now (c.wants-item.ensures.no c.if-wants-item.false) (more_digits c.args.number c.args.d))
+pub returns-in_default : goal.returns-in_default
+returns-in_default c = (refl, no_number c.args.self.now (c.wants_item.ensures.no c.if-wants_item.false) (more_digits c.args.number c.args.d))
 
 pub returns-then-n-most : goal.returns-then-n-most
 returns-then-n-most c =

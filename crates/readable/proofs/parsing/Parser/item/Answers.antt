@@ -22,8 +22,8 @@ returns-in-Number c =
     let p = c.args.self.now in
     let n = c.in-Number.n in
     let s = begins p c.args.k (Number n) c.in-Number.is in
-    MatchResult-weaker c.put-numeral.result c.put-numeral.ensures
-    (λ x m. moved_as s (put_moved p c.put-numeral.new.self (bytes_of_tree (numeral n)) m))
+    MatchResult-weaker c.put_numeral.result c.put_numeral.ensures
+    (λ x m. moved_as s (put_moved p c.put_numeral.new.self (bytes_of_tree (numeral n)) m))
     (λ f h. stopped_as f c.args.place _ s (put_stopped p (bytes_of_tree (numeral n)) (wants (stack p)) c.requires.within f c.args.place h))
 
 pub returns-in-Open : goal.returns-in-Open

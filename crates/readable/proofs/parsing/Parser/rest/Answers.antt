@@ -4,8 +4,8 @@ use Rattle.readable.proofs.parsing.Parser.rest.Goals as goal
 
 pub returns-in-err-put : goal.returns-in-err-put
 returns-in-err-put c =
-    let e = err_from_is_err_and c.from-residual.result c.from-residual.ensures.1 in
-    rw (e.1, e.2) (no_more c.args.self.now c.requires.top.0 c.requires.within c.requires.top.1 c.args.k c.in-default.not-End c.in-err-put.field-0.0 c.args.place c.in-err-put.ensures)
+    let e = err_from_is_err_and c.from_residual.result c.from_residual.ensures.1 in
+    rw (e.1, e.2) (no_more c.args.self.now c.requires.top.0 c.requires.within c.requires.top.1 c.args.k c.in_default.not-End c.in-err-put.field-0.0 c.args.place c.in-err-put.ensures)
 
 pub returns-in-End : goal.returns-in-End
 returns-in-End c =
@@ -17,8 +17,8 @@ returns-in-End c =
 pub returns-in-ok-put : goal.returns-in-ok-put
 returns-in-ok-put c =
     let p = c.args.self.now in
-    let q = c.put-in-default.new.self in
+    let q = c.put-in_default.new.self in
     let put = c.in-ok-put.ensures in
     MatchResult-weaker c.item.result c.item.ensures
-    (λ x m. more_taken p c.requires.top.0 c.requires.within c.requires.top.1 c.args.k q c.item.new.self c.in-default.not-End put m)
-    (λ f h. more_not_taken p c.requires.top.0 c.requires.within c.requires.top.1 c.args.k q c.in-default.not-End put f c.args.place h)
+    (λ x m. more_taken p c.requires.top.0 c.requires.within c.requires.top.1 c.args.k q c.item.new.self c.in_default.not-End put m)
+    (λ f h. more_not_taken p c.requires.top.0 c.requires.within c.requires.top.1 c.args.k q c.in_default.not-End put f c.args.place h)

@@ -12,7 +12,7 @@ returns-in-Shut c =
       yes = λ e. absurd (false≢true e);
     }
 
-pub returns-in-default : goal.returns-in-default
-returns-in-default c =
+pub returns-in_default : goal.returns-in_default
+returns-in_default c =
     let some : 0 < c.args.self.now.height = omega arith in
-    record { no = λ e. absurd (true≢false e); yes = λ e. accepts c.args.self.now some c.in-default.not-Shut }
+    record { no = λ e. absurd (true≢false e); yes = λ e. accepts c.args.self.now some c.in_default.not-Shut }

@@ -2,8 +2,8 @@ use Rattle.std.proofs.Common.{arith}
 use Rattle.tasks.proofs.Standings.{first_bytes, few_bytes, long_ends, end_there}
 use Rattle.tasks.proofs.text.Text.end.Goals as goal
 
-pub offset-bounds-self-at : goal.offset-bounds-self-at
-offset-bounds-self-at c =
+pub offset_bounds-self-at : goal.offset_bounds-self-at
+offset_bounds-self-at c =
     let x = c.args.self.now in
     let b = (first_bytes x.bytes.now x.ends.now x.starts.now x.ending c.args.at c.requires).one in
     let f = few_bytes x.bytes.now x.ends.now x.starts.now x.ending in

@@ -15,29 +15,29 @@ few x = few_bytes x.bytes.now x.ends.now x.starts.now x.ending
 pub bounds-self-at : goal.bounds-self-at
 bounds-self-at c = let b = begins c.args.self.now c.args.at c.requires in let f = few c.args.self.now in omega (arith, b.one)
 
-pub overflow-add-result : goal.overflow-add-result
-overflow-add-result c = let b = begins c.args.self.now c.args.at c.requires in let f = few c.args.self.now in let t = b.var_two c.in-0.is in omega arith
+pub overflow_add-result : goal.overflow_add-result
+overflow_add-result c = let b = begins c.args.self.now c.args.at c.requires in let f = few c.args.self.now in let t = b.var_two c.in-0.is in omega arith
 
 pub bounds-self-at-in-0 : goal.bounds-self-at-in-0
 bounds-self-at-in-0 c = let b = begins c.args.self.now c.args.at c.requires in let f = few c.args.self.now in let t = b.var_two c.in-0.is in omega arith
 
-pub overflow-add-result-in-3 : goal.overflow-add-result-in-3
-overflow-add-result-in-3 c = let b = begins c.args.self.now c.args.at c.requires in let f = few c.args.self.now in let t = b.parts_two c.in-3.is in omega arith
+pub overflow_add-result-in-3 : goal.overflow_add-result-in-3
+overflow_add-result-in-3 c = let b = begins c.args.self.now c.args.at c.requires in let f = few c.args.self.now in let t = b.parts_two c.in-3.is in omega arith
 
 pub bounds-self-at-in-3 : goal.bounds-self-at-in-3
 bounds-self-at-in-3 c = let b = begins c.args.self.now c.args.at c.requires in let f = few c.args.self.now in let t = b.parts_two c.in-3.is in omega arith
 
-pub overflow-add-result-in-default : goal.overflow-add-result-in-default
-overflow-add-result-in-default c = let b = begins c.args.self.now c.args.at c.requires in let f = few c.args.self.now in let e : get_or c.args.self.now.bytes.now c.args.at 0 ≡ 5 = (let k = b.known in grind arith) in let t = b.call_three e in omega arith
+pub overflow_add-result-in_default : goal.overflow_add-result-in_default
+overflow_add-result-in_default c = let b = begins c.args.self.now c.args.at c.requires in let f = few c.args.self.now in let e : get_or c.args.self.now.bytes.now c.args.at 0 ≡ 5 = (let k = b.known in grind arith) in let t = b.call_three e in omega arith
 
-pub bounds-self-at-in-default : goal.bounds-self-at-in-default
-bounds-self-at-in-default c = let b = begins c.args.self.now c.args.at c.requires in let f = few c.args.self.now in let e : get_or c.args.self.now.bytes.now c.args.at 0 ≡ 5 = (let k = b.known in grind arith) in let t = b.call_three e in omega arith
+pub bounds-self-at-in_default : goal.bounds-self-at-in_default
+bounds-self-at-in_default c = let b = begins c.args.self.now c.args.at c.requires in let f = few c.args.self.now in let e : get_or c.args.self.now.bytes.now c.args.at 0 ≡ 5 = (let k = b.known in grind arith) in let t = b.call_three e in omega arith
 
-pub overflow-add-result-in-default-2 : goal.overflow-add-result-in-default-2
-overflow-add-result-in-default-2 c = let b = begins c.args.self.now c.args.at c.requires in let f = few c.args.self.now in let e : get_or c.args.self.now.bytes.now c.args.at 0 ≡ 5 = (let k = b.known in grind arith) in let t = b.call_three e in omega arith
+pub overflow_add-result-in_default-2 : goal.overflow_add-result-in_default-2
+overflow_add-result-in_default-2 c = let b = begins c.args.self.now c.args.at c.requires in let f = few c.args.self.now in let e : get_or c.args.self.now.bytes.now c.args.at 0 ≡ 5 = (let k = b.known in grind arith) in let t = b.call_three e in omega arith
 
-pub bounds-self-at-in-default-2 : goal.bounds-self-at-in-default-2
-bounds-self-at-in-default-2 c = let b = begins c.args.self.now c.args.at c.requires in let f = few c.args.self.now in let e : get_or c.args.self.now.bytes.now c.args.at 0 ≡ 5 = (let k = b.known in grind arith) in let t = b.call_three e in omega arith
+pub bounds-self-at-in_default-2 : goal.bounds-self-at-in_default-2
+bounds-self-at-in_default-2 c = let b = begins c.args.self.now c.args.at c.requires in let f = few c.args.self.now in let e : get_or c.args.self.now.bytes.now c.args.at 0 ≡ 5 = (let k = b.known in grind arith) in let t = b.call_three e in omega arith
 
 pub returns-in-0 : goal.returns-in-0
 returns-in-0 c = let b = begins c.args.self.now c.args.at c.requires in let f = few c.args.self.now in let t = b.var_two c.in-0.is in (omega arith, bytes2 c.args.self.now.bytes.now c.args.at 0 (omega arith) c.in-0.is)
@@ -54,5 +54,5 @@ returns-in-3 c = let b = begins c.args.self.now c.args.at c.requires in let f = 
 pub returns-in-4 : goal.returns-in-4
 returns-in-4 c = let b = begins c.args.self.now c.args.at c.requires in let f = few c.args.self.now in let t = b.one in (omega arith, bytes1 c.args.self.now.bytes.now c.args.at 4 (omega arith) c.in-4.is)
 
-pub returns-in-default : goal.returns-in-default
-returns-in-default c = let b = begins c.args.self.now c.args.at c.requires in let f = few c.args.self.now in let e : get_or c.args.self.now.bytes.now c.args.at 0 ≡ 5 = (let k = b.known in grind arith) in let t = b.call_three e in (omega arith, bytes3 c.args.self.now.bytes.now c.args.at 5 (omega arith) e)
+pub returns-in_default : goal.returns-in_default
+returns-in_default c = let b = begins c.args.self.now c.args.at c.requires in let f = few c.args.self.now in let e : get_or c.args.self.now.bytes.now c.args.at 0 ≡ 5 = (let k = b.known in grind arith) in let t = b.call_three e in (omega arith, bytes3 c.args.self.now.bytes.now c.args.at 5 (omega arith) e)
