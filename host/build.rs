@@ -10,7 +10,7 @@ fn main() -> Result<(), Box<dyn Error>> {
     let host = PathBuf::from(env::var_os("CARGO_MANIFEST_DIR").ok_or("cargo gives no CARGO_MANIFEST_DIR")?);
     let root = host.parent().ok_or("the crate stands in no repository")?;
     let out = PathBuf::from(env::var_os("OUT_DIR").ok_or("cargo gives no OUT_DIR")?);
-    println!("cargo::rerun-if-changed={}", root.join("crates").display());
+    watch(&root.join("crates"))?;
     println!("cargo::rerun-if-changed={}", root.join("crates.txt").display());
     println!("cargo::rerun-if-env-changed=PEGSIENNA_ARCHIVE");
     // An archive made elsewhere, as for a device, may be named instead.
@@ -29,15 +29,29 @@ fn main() -> Result<(), Box<dyn Error>> {
     Ok(())
 }
 
-/// Proves crate `ends` and writes its archive.
+/// Runs this again when a crate's own files change, and not for what rt writes beside them.
+fn watch(crates: &Path) -> Result<(), Box<dyn Error>> {
+    for entry in fs::read_dir(crates)? {
+        for part in ["src", "specs", "proofs"] {
+            let folder = entry.as_ref().map_err(|e| e.to_string())?.path().join(part);
+            if folder.is_dir() {
+                println!("cargo::rerun-if-changed={}", folder.display());
+            }
+        }
+    }
+    Ok(())
+}
+
+/// Proves crate `ends_c`, the calls for other languages, and writes its archive.
 fn proved(root: &Path) -> Result<PathBuf, Box<dyn Error>> {
-    let made = Command::new("rt").args(["staticlib", "ends"]).current_dir(root).output();
-    let made = made.map_err(|e| {
-        format!("`rt staticlib ends` can't be run ({e}): the Rattle toolchain has to be on the path, or PEGSIENNA_ARCHIVE has to name an archive")
-    })?;
+    let made = Command::new(root.join("tools/build")).arg("archive").output();
+    let made = made.map_err(|e| format!("tools/build can't be run: {e}"))?;
     if !made.status.success() {
         let said = String::from_utf8_lossy(&made.stdout) + String::from_utf8_lossy(&made.stderr);
-        return Err(format!("`rt staticlib ends` failed:\n{said}").into());
+        return Err(format!(
+            "`tools/build archive` failed (the Rattle toolchain has to be on the path, or PEGSIENNA_ARCHIVE has to name an archive):\n{said}"
+        )
+        .into());
     }
     Ok(root.join("target/staticlib/libends.a"))
 }

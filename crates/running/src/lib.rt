@@ -1,4 +1,6 @@
 // The interpreter.
+#![tactic(auto)]
+
 ghost use Rattle.std.specs.Prelude.{◌≡◌, ℕ, ◌+◌, ◌*◌, ◌<◌, ◌≤◌, length, slice_index};
 ghost use Rattle.arena.specs.Nodes.{env, Well, Grown};
 ghost use Rattle.tasks.specs.Texts.{Taking};
