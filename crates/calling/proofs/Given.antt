@@ -1,11 +1,11 @@
 -- The first numbers of a stack are the trees that a call is given.
-use Rattle.std.proofs.Common.{◌≡◌, ℕ, zero, suc, ◌-◌, ◌<◌, ◌≤◌, T, List, [], ◌∷◌, length, get_or, take, sym, refl, ap, ◌∙◌, subst, arith}
+use Rattle.std.proofs.Common.{◌≡◌, ℕ, zero, suc, ◌-◌, ◌<◌, ◌≤◌, T, List, length, get_or, take, sym, refl, ap, ◌∙◌, subst, arith}
 use Rattle.std.proofs.lemmas.List.{length-take-le, get_or-take}
 use Rattle.sizechange.specs.Graph.{nth}
 use Rattle.lang.specs.Program.{Tree, Prog}
 use Rattle.lang.specs.Eval.{Outcome, Calls}
 use Rattle.lang.specs.Bytes.{Program, bytes_of_trees, takes}
-use Rattle.arena.specs.Nodes.{tree, env}
+use Rattle.arena.specs.Nodes.{env}
 use Rattle.tasks.specs.Texts.{Taking}
 use Rattle.calling.specs.Calling.{ComesTo}
 

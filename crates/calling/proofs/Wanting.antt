@@ -1,10 +1,10 @@
 -- What is known of a function by the tables, whatever program the bytes are said to be.
-use Rattle.std.proofs.Common.{◌≡◌, ℕ, ◌<◌, ◌≤◌, true, T, eqb, List, length, Some, None, sym, refl, ap, ◌∙◌, subst, arith}
+use Rattle.std.proofs.Common.{◌≡◌, ℕ, ◌<◌, ◌≤◌, T, eqb, List, length, Some, None, sym, refl, ap, subst, arith}
 use mathlib.Core.Option as opt
 use lib.Dec.{eqb_refl}
 use Rattle.sizechange.specs.Graph.{nth}
 use Rattle.sizechange.proofs.Lists.{nth_below}
-use Rattle.lang.specs.Program.{Fun, Prog, max_args}
+use Rattle.lang.specs.Program.{Fun, Prog}
 use Rattle.lang.specs.Bytes.{Program, takes}
 use Rattle.lang.proofs.Reading.{one_program, fine_parts, few_args}
 use Rattle.reading.specs.Tables.{Tables}

@@ -1,4 +1,6 @@
 // Calls a function of a script that was judged, on trees in bytes.
+#![tactic(auto)]
+
 ghost use Rattle.std.specs.Prelude.{◌≡◌, ℕ, ◌+◌, ◌-◌, ◌*◌, ◌^◌, ◌<◌, ◌≤◌, length, slice_index};
 ghost use Rattle.lang.specs.Bytes.{bytes_of_trees};
 ghost use Rattle.arena.specs.Nodes.{Well, env};

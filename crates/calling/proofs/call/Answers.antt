@@ -1,4 +1,4 @@
-use Rattle.std.proofs.Common.{ℕ, ◌<◌, List, sym, subst, arith, rules}
+use Rattle.std.proofs.Common.{ℕ, ◌<◌, List, subst, rules}
 use Rattle.calling.specs.Calling.{CalledSays}
 use Rattle.calling.proofs.Wanting.{ending, taking_below}
 use Rattle.calling.proofs.call.Goals as goal

@@ -1,4 +1,4 @@
-use Rattle.std.proofs.Common.{refl, arith}
+use Rattle.std.proofs.Common.{refl}
 use Rattle.calling.proofs.Given.{given_takes, given_there, comes}
 use Rattle.calling.proofs.evaluate.Goals as goal
 

@@ -2,16 +2,16 @@ use Rattle.std.proofs.lemmas.Bool.{both_ways, not-true, not-false}
 use Rattle.std.proofs.lemmas.Bool.Decides.{not_from_Decides}
 use Rattle.closure.proofs.fails.Goals as goal
 
-pub returns-then-is-idempotent : goal.returns-then-is-idempotent
-returns-then-is-idempotent c =
+pub returns-then-is_idempotent : goal.returns-then-is_idempotent
+returns-then-is_idempotent c =
     record {
-      fails = λ t. record { loop = c.if-e.false; idempotent = λ as₁ w. (c.is-idempotent.ensures as₁ w).0 c.if-is-idempotent.true; none = λ as₁ w i s. not_from_Decides c.shrinks.result (c.shrinks.ensures as₁ w) (not-true c.shrinks.result t) (i, s) };
+      fails = λ t. record { loop = c.if-e.false; idempotent = λ as₁ w. (c.is_idempotent.ensures as₁ w).0 c.if-is_idempotent.true; none = λ as₁ w i s. not_from_Decides c.shrinks.result (c.shrinks.ensures as₁ w) (not-true c.shrinks.result t) (i, s) };
       sound = λ t loop as₁ w idem. (c.shrinks.ensures as₁ w).0 (not-false c.shrinks.result t);
     }
 
-pub returns-else-is-idempotent : goal.returns-else-is-idempotent
-returns-else-is-idempotent c =
+pub returns-else-is_idempotent : goal.returns-else-is_idempotent
+returns-else-is_idempotent c =
     record {
-      fails = λ t. absurd (both_ways c.is-idempotent.result c.if-is-idempotent.false t);
-      sound = λ t loop as₁ w idem. absurd (not_from_Decides c.is-idempotent.result (c.is-idempotent.ensures as₁ w) t idem);
+      fails = λ t. absurd (both_ways c.is_idempotent.result c.if-is_idempotent.false t);
+      sound = λ t loop as₁ w idem. absurd (not_from_Decides c.is_idempotent.result (c.is_idempotent.ensures as₁ w) t idem);
     }

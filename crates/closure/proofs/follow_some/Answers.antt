@@ -22,8 +22,8 @@ follow-count-requires c =
     let g = c.loop-k.invariant.0 in
     record { room = record { words_enough = omega arith; limit_small = omega arith }; chained = c.loop-k.invariant.1; points = c.requires.points; linked = g.linked; few = omega (arith, g.more); most = g.most; here = c.loop-k-test.true }
 
-pub overflow-add-k : goal.overflow-add-k
-overflow-add-k c = omega arith
+pub overflow_add-k : goal.overflow_add-k
+overflow_add-k c = omega arith
 
 pub loop-k-smaller : goal.loop-k-smaller
 loop-k-smaller c = omega (arith, c.loop-k.invariant.0.most)
