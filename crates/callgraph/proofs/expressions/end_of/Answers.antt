@@ -5,8 +5,8 @@ use Rattle.callgraph.proofs.expressions.end_of.Goals as goal
 pub bounds-ends-at : goal.bounds-ends-at
 bounds-ends-at c = omega (arith, reads_below c.args.bytes.now c.args.at c.requires.reads)
 
-pub offset-bounds-ends-at : goal.offset-bounds-ends-at
-offset-bounds-ends-at c = let l : c.args.at < length c.args.bytes.now = reads_below c.args.bytes.now c.args.at c.requires.reads in search rules
+pub offset_bounds-ends-at : goal.offset_bounds-ends-at
+offset_bounds-ends-at c = let l : c.args.at < length c.args.bytes.now = reads_below c.args.bytes.now c.args.at c.requires.reads in search rules
 
 pub returns : goal.returns
 returns c =

@@ -7,11 +7,11 @@ use Rattle.callgraph.proofs.Standing.{stands_next, stands_read, hop_on}
 use Rattle.callgraph.proofs.Arguments.{firsts, all_firsts, words_more}
 use Rattle.callgraph.proofs.expressions.graph_of.Goals as goal
 
-pub origin-of-origin-requires : goal.origin-of-origin-requires
-origin-of-origin-requires c = record { stands = stands_next c.args.bytes.now c.args.ends.now c.requires.ending c.args.vars c.args.at c.args.n c.loop-i.i c.loop-i.start c.loop-i.invariant.0 c.loop-i-test.true c.requires.stand; within = c.requires.within }
+pub origin_of-origin-requires : goal.origin_of-origin-requires
+origin_of-origin-requires c = record { stands = stands_next c.args.bytes.now c.args.ends.now c.requires.ending c.args.vars c.args.at c.args.n c.loop-i.i c.loop-i.start c.loop-i.invariant.0 c.loop-i-test.true c.requires.stand; within = c.requires.within }
 
-pub end-of-start-requires : goal.end-of-start-requires
-end-of-start-requires c =
+pub end_of-start-requires : goal.end_of-start-requires
+end_of-start-requires c =
     let h = stands_next c.args.bytes.now c.args.ends.now c.requires.ending c.args.vars c.args.at c.args.n c.loop-i.i c.loop-i.start c.loop-i.invariant.0 c.loop-i-test.true c.requires.stand in
     record { known = c.requires.ending; within = c.requires.table; reads = stands_read c.args.bytes.now c.args.vars c.loop-i.start h }
 
@@ -20,8 +20,8 @@ loop-i-init c = (refl, λ p es k h. c.none-graph.ensures)
 
 pub loop-i-preserved : goal.loop-i-preserved
 loop-i-preserved c = (
-  c.end-of-start.ensures.is ∙ hop_on c.args.ends.now c.args.at c.loop-i.i c.loop-i.start c.loop-i.invariant.0,
-  λ p es k h. words_more (in_view c.args.known.now c.args.vars) p c.args.bytes.now c.args.ends.now c.requires.ending c.args.vars c.args.at c.args.n es k c.loop-i.i c.loop-i.start c.loop-i-test.true c.loop-i.invariant.0 c.origin-of-origin.result.0 c.origin-of-origin.ensures c.loop-i.graph c.lead-graph.result c.lead-graph.ensures h (c.loop-i.invariant.1 p es k h),
+  c.end_of-start.ensures.is ∙ hop_on c.args.ends.now c.args.at c.loop-i.i c.loop-i.start c.loop-i.invariant.0,
+  λ p es k h. words_more (in_view c.args.known.now c.args.vars) p c.args.bytes.now c.args.ends.now c.requires.ending c.args.vars c.args.at c.args.n es k c.loop-i.i c.loop-i.start c.loop-i-test.true c.loop-i.invariant.0 c.origin_of-origin.result.0 c.origin_of-origin.ensures c.loop-i.graph c.lead-graph.result c.lead-graph.ensures h (c.loop-i.invariant.1 p es k h),
 )
 
 pub returns : goal.returns

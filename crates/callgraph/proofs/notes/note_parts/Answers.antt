@@ -12,30 +12,30 @@ use Rattle.callgraph.proofs.Laying.{note_as}
 use Rattle.callgraph.proofs.Parting.{var_wait, leaf_wait, node_wait, parts_wait, bind_wait, call_wait, call_stands, two_places, by_head, parts_seen, bind_stands}
 use Rattle.callgraph.proofs.notes.note_parts.Goals as goal
 
-pub note-two-requires : goal.note-two-requires
-note-two-requires c =
+pub note_two-requires : goal.note_two-requires
+note_two-requires c =
     let h = two_places c.args.bytes.now c.args.ends.now c.requires.room.ending c.args.vars c.args.at c.width.result c.args.head c.requires.head (ap arity_of c.in-Node.is) c.width.ensures c.requires.stands in
     let a = h.there in
     let b = h.second in
     let r = c.requires.room in
     record { there = omega arith; forward = h.forward; room = omega arith; fits = omega arith; few = omega arith }
 
-pub origin-at-requires : goal.origin-at-requires
-origin-at-requires c =
+pub origin_at-requires : goal.origin_at-requires
+origin_at-requires c =
     let h = parts_seen c.args.bytes.now c.args.vars c.args.at c.in-Parts.i (subst (λ (g : Head). HeadAt c.args.bytes.now c.args.at (Some g)) c.in-Parts.is c.requires.head) c.requires.stands in
     let k = stands_below c.args.bytes.now c.args.vars c.args.at c.requires.stands in
     record { seen = h; within = omega arith }
 
-pub note-two-requires-in-Parts : goal.note-two-requires-in-Parts
-note-two-requires-in-Parts c =
+pub note_two-requires-in-Parts : goal.note_two-requires-in-Parts
+note_two-requires-in-Parts c =
     let h = two_places c.args.bytes.now c.args.ends.now c.requires.room.ending c.args.vars c.args.at c.width.result c.args.head c.requires.head (ap arity_of c.in-Parts.is) c.width.ensures c.requires.stands in
     let a = h.there in
     let b = h.second in
     let r = c.requires.room in
     record { there = omega arith; forward = h.forward; room = omega arith; fits = omega arith; few = omega arith }
 
-pub origin-of-requires : goal.origin-of-requires
-origin-of-requires c =
+pub origin_of-requires : goal.origin_of-requires
+origin_of-requires c =
     let w : c.width.result ≡ 1 = c.width.ensures ∙ ap width_of c.in-Bind.is in
     let k = stands_below c.args.bytes.now c.args.vars c.args.at c.requires.stands in
     record {
@@ -43,16 +43,16 @@ origin-of-requires c =
       within = omega arith;
     }
 
-pub note-two-requires-in-Bind : goal.note-two-requires-in-Bind
-note-two-requires-in-Bind c =
+pub note_two-requires-in-Bind : goal.note_two-requires-in-Bind
+note_two-requires-in-Bind c =
     let h = two_places c.args.bytes.now c.args.ends.now c.requires.room.ending c.args.vars c.args.at c.width.result c.args.head c.requires.head (ap arity_of c.in-Bind.is) c.width.ensures c.requires.stands in
     let a = h.there in
     let b = h.second in
     let r = c.requires.room in
     record { there = omega arith; forward = h.forward; room = omega arith; fits = omega arith; few = omega arith }
 
-pub note-all-requires : goal.note-all-requires
-note-all-requires c =
+pub note_all-requires : goal.note_all-requires
+note_all-requires c =
     let w : c.width.result ≡ 3 = c.width.ensures ∙ ap width_of c.in-Call.is in
     let k = stands_below c.args.bytes.now c.args.vars c.args.at c.requires.stands in
     let r = c.requires.room in
@@ -76,34 +76,34 @@ returns-in-Var c =
 pub returns-in-Node : goal.returns-in-Node
 returns-in-Node c =
     let s = c.args.bytes.now in
-    let q = c.note-two.ensures in
-    by_head s c.args.ends.now c.args.views.now c.note-two.new.views c.args.known.now c.args.vars c.args.at c.width.result 0 0 c.args.head Node c.in-Node.is c.width.ensures c.requires.head
-    (λ a n. node_wait s c.args.ends.now c.args.views.now c.note-two.new.views c.args.known.now c.requires.room.ending c.args.vars c.args.at a c.requires.few n)
-    (record { first = note_as c.note-two.new.views _ _ _ _ _ _ _ c.plain.ensures.outer refl refl q.first; next = note_as c.note-two.new.views _ _ _ _ _ _ _ c.plain.ensures.outer c.plain.ensures.new c.plain.ensures.origin q.next; others = q.others })
+    let q = c.note_two.ensures in
+    by_head s c.args.ends.now c.args.views.now c.note_two.new.views c.args.known.now c.args.vars c.args.at c.width.result 0 0 c.args.head Node c.in-Node.is c.width.ensures c.requires.head
+    (λ a n. node_wait s c.args.ends.now c.args.views.now c.note_two.new.views c.args.known.now c.requires.room.ending c.args.vars c.args.at a c.requires.few n)
+    (record { first = note_as c.note_two.new.views _ _ _ _ _ _ _ c.plain.ensures.outer refl refl q.first; next = note_as c.note_two.new.views _ _ _ _ _ _ _ c.plain.ensures.outer c.plain.ensures.new c.plain.ensures.origin q.next; others = q.others })
 
 pub returns-in-Parts : goal.returns-in-Parts
 returns-in-Parts c =
     let s = c.args.bytes.now in
-    let q = c.note-two-in-Parts.ensures in
-    by_head s c.args.ends.now c.args.views.now c.note-two-in-Parts.new.views c.args.known.now c.args.vars c.args.at c.width.result 2 c.part.result.0 c.args.head (Parts c.in-Parts.i) c.in-Parts.is c.width.ensures c.requires.head
-    (λ a n. parts_wait s c.args.ends.now c.args.views.now c.note-two-in-Parts.new.views c.args.known.now c.requires.room.ending c.args.vars c.args.at c.in-Parts.i c.part.result.0 a c.requires.few (c.part.ensures ∙ ap part c.origin-at.ensures) n)
+    let q = c.note_two-in-Parts.ensures in
+    by_head s c.args.ends.now c.args.views.now c.note_two-in-Parts.new.views c.args.known.now c.args.vars c.args.at c.width.result 2 c.part.result.0 c.args.head (Parts c.in-Parts.i) c.in-Parts.is c.width.ensures c.requires.head
+    (λ a n. parts_wait s c.args.ends.now c.args.views.now c.note_two-in-Parts.new.views c.args.known.now c.requires.room.ending c.args.vars c.args.at c.in-Parts.i c.part.result.0 a c.requires.few (c.part.ensures ∙ ap part c.origin_at.ensures) n)
     (record { first = q.first; next = q.next; others = q.others })
 
 pub returns-in-Bind : goal.returns-in-Bind
 returns-in-Bind c =
     let s = c.args.bytes.now in
-    let q = c.note-two-in-Bind.ensures in
+    let q = c.note_two-in-Bind.ensures in
     let w : 1 ≡ c.width.result = sym (c.width.ensures ∙ ap width_of c.in-Bind.is) in
-    by_head s c.args.ends.now c.args.views.now c.note-two-in-Bind.new.views c.args.known.now c.args.vars c.args.at c.width.result 1 c.origin-of.result.0 c.args.head Bind c.in-Bind.is c.width.ensures c.requires.head
-    (λ a n. bind_wait s c.args.ends.now c.args.views.now c.note-two-in-Bind.new.views c.args.known.now c.requires.room.ending c.args.vars c.args.at c.origin-of.result.0 a c.requires.few (λ e x r. c.origin-of.ensures e x (subst (λ (j : ℕ). Reads (drop (c.args.at + j) s) e x) w r)) n)
+    by_head s c.args.ends.now c.args.views.now c.note_two-in-Bind.new.views c.args.known.now c.args.vars c.args.at c.width.result 1 c.origin_of.result.0 c.args.head Bind c.in-Bind.is c.width.ensures c.requires.head
+    (λ a n. bind_wait s c.args.ends.now c.args.views.now c.note_two-in-Bind.new.views c.args.known.now c.requires.room.ending c.args.vars c.args.at c.origin_of.result.0 a c.requires.few (λ e x r. c.origin_of.ensures e x (subst (λ (j : ℕ). Reads (drop (c.args.at + j) s) e x) w r)) n)
     (record { first = q.first; next = q.next; others = q.others })
 
 pub returns-in-Call : goal.returns-in-Call
 returns-in-Call c =
     let s = c.args.bytes.now in
-    let q = c.note-all.ensures in
+    let q = c.note_all.ensures in
     let w : c.width.result ≡ 3 = c.width.ensures ∙ ap width_of c.in-Call.is in
-    subst (λ (g : Head). PartsWait s c.args.vars c.args.at (c.args.at + width_of g) c.args.known.now c.args.views.now c.note-all.new.views) (sym c.in-Call.is)
-    (call_wait s c.args.ends.now c.args.views.now c.note-all.new.views c.args.known.now c.requires.room.ending c.args.vars c.args.at _ c.in-Call.n (subst (λ (g : Head). HeadAt s c.args.at (Some g)) c.in-Call.is c.requires.head) c.requires.few
-    (λ i l. subst (λ (j : ℕ). Noted c.note-all.new.views (hop c.args.ends.now (c.args.at + j) i) c.args.vars 0 0) w (q.noted i l))
+    subst (λ (g : Head). PartsWait s c.args.vars c.args.at (c.args.at + width_of g) c.args.known.now c.args.views.now c.note_all.new.views) (sym c.in-Call.is)
+    (call_wait s c.args.ends.now c.args.views.now c.note_all.new.views c.args.known.now c.requires.room.ending c.args.vars c.args.at _ c.in-Call.n (subst (λ (g : Head). HeadAt s c.args.at (Some g)) c.in-Call.is c.requires.head) c.requires.few
+    (λ i l. subst (λ (j : ℕ). Noted c.note_all.new.views (hop c.args.ends.now (c.args.at + j) i) c.args.vars 0 0) w (q.noted i l))
     (λ j l. q.others j (subst (λ (m : ℕ). hop c.args.ends.now (c.args.at + m) c.in-Call.n ≤ j) (sym w) l)))
