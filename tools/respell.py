@@ -26,6 +26,9 @@ BY_HAND = {
     "judgedNumber": "judged_number",
     "judgedNumbers": "judged_numbers",
     "ranNumbers": "ran_numbers",
+    # callgraph has StepRows
+    "Step-rows": "RowsOfSteps",
+    "Way-rows": "RowsOfWays",
 }
 LETTER = r"A-Za-z0-9_\-'₀-₉·◌"
 HEAD = re.compile(r"^\s*(?:abbrev )?(?:unfoldable )?(?:pub )?(?:data |record )?(?:\{[^}]*\} )?([A-Za-z][%s]*)(?= .*:|$| :)" % LETTER)

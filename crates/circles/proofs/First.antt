@@ -10,7 +10,7 @@ use Rattle.table.specs.declared.Row.{Row}
 use Rattle.table.specs.Rows.{edge_of, row_at, rows}
 use Rattle.table.proofs.Rows.{nth_rows, rows_nth, rows_in}
 use Rattle.closure.specs.Ways as Before
-use Rattle.closure.specs.Ways.{Made, begun, gone_on, Grown, Complete, Stands, StepRows, Sound, Fails}
+use Rattle.closure.specs.Ways.{Made, begun, gone_on, Grown, Complete, Stands, RowsOfSteps, Sound, Fails}
 use Rattle.closure.proofs.Ways.{each_nth, each_flip}
 use Rattle.circles.specs.Paths.{Path, start, on}
 use Rattle.circles.proofs.Paths.{grown_made, path_some, path_one, path_none, path_order}
@@ -41,7 +41,7 @@ upto_push is js i (inr l) = inr (shortlex_push is js i i l)
 upto_last : (is : List ℕ) (i j : ℕ) → i ≤ j → Upto (is ++ i ∷ []) (is ++ j ∷ [])
 upto_last is i j l = elim (cases_eq i j) [ inl e ↦ inl (ap (λ (k : ℕ). is ++ k ∷ []) e) | inr d ↦ inr (inr (lex_last is i j (omega arith))) ]
 
-module _ (ts : List Row) (xs : List ℕ) (count : ℕ) (ss : List Step) (steps : StepRows ts ss) (g : Grown ts (rows xs count)) where
+module _ (ts : List Row) (xs : List ℕ) (count : ℕ) (ss : List Step) (steps : RowsOfSteps ts ss) (g : Grown ts (rows xs count)) where
   -- the steps of a row lead as the row says
   record Leads (is : List ℕ) (e : Edge) : Type 0 where
     from : ℕ

@@ -12,7 +12,7 @@ use Rattle.table.specs.declared.Row.{Row}
 use Rattle.table.specs.Rows.{rows}
 use Rattle.table.proofs.Rows.{rows_nth}
 use Rattle.closure.specs.Parts.{caller}
-use Rattle.closure.specs.Ways.{Each, end, and, StepRows}
+use Rattle.closure.specs.Ways.{Each, end, and, RowsOfSteps}
 use Rattle.closure.proofs.Ways.{each_nth, each_flip, each_length, each_push}
 use Rattle.circles.specs.Paths.{Run, Names, Part}
 use Rattle.circles.proofs.First.{At}
@@ -59,7 +59,7 @@ named_circle p is h =
     )
 
 -- the two words of a step are its call's
-pub words_call : (p : Prog) (st : List ℕ) (n : ℕ) → StepRows (rows st n) (call_graph p) → (i : ℕ) (c : Call) → Is p i c → (f r : ℕ) → f ≡ caller st i → Run st i r → (f ≡ c.function) × (r ≡ c.number)
+pub words_call : (p : Prog) (st : List ℕ) (n : ℕ) → RowsOfSteps (rows st n) (call_graph p) → (i : ℕ) (c : Call) → Is p i c → (f r : ℕ) → f ≡ caller st i → Run st i r → (f ≡ c.function) × (r ≡ c.number)
 words_call p st n steps i c x f r e run = (e ∙ (mine ∙ makes_caller x.makes), number)
   where
     at : nth (call_graph p) i ≡ some x.step
@@ -78,7 +78,7 @@ words_call p st n steps i c x f r e run = (e ∙ (mine ∙ makes_caller x.makes)
     number : r ≡ c.number
     number = index_number p (record { function = x.step.caller; number = r }) c (makes_caller x.makes) (found.1 ∙ sym x.place)
 
-pub named_part : (p : Prog) (st : List ℕ) (n : ℕ) → StepRows (rows st n) (call_graph p) → (is : List ℕ) (cs : List Call) → Each (Is p) is cs → (at : ℕ) (ws : List ℕ) → ((j i : ℕ) → nth is (at + j) ≡ some i → 2 * j + 1 < length ws → Names st ws j i) → Part cs at ws
+pub named_part : (p : Prog) (st : List ℕ) (n : ℕ) → RowsOfSteps (rows st n) (call_graph p) → (is : List ℕ) (cs : List Call) → Each (Is p) is cs → (at : ℕ) (ws : List ℕ) → ((j i : ℕ) → nth is (at + j) ≡ some i → 2 * j + 1 < length ws → Names st ws j i) → Part cs at ws
 named_part p st n steps is cs each at ws names j c e l =
     let (i, there, x) = each_nth (at + j) (each_flip each) e in
     let h = names j i there l in

@@ -2,7 +2,7 @@
 ghost use Rattle.std.specs.Prelude.{◌≡◌, ℕ, suc, ◌+◌, ◌*◌, ◌<◌, ◌≤◌, List, length, Some, slice_index};
 ghost use Rattle.circles.specs.Paths.{Named, Names, Part, Path, Run, Traced};
 ghost use Rattle.closure.specs.Answers.{FirstFailing};
-ghost use Rattle.closure.specs.Ways.{Complete, Grown, StepRows};
+ghost use Rattle.closure.specs.Ways.{Complete, Grown, RowsOfSteps};
 ghost use Rattle.lang.specs.Circle.{Call, FirstCircle};
 ghost use Rattle.lang.specs.Program.{Prog};
 ghost use Rattle.lang.specs.Steps.{call_graph};
@@ -87,7 +87,7 @@ pub fn first_circle(
     requires complete { Complete (rows steps.now n) (rows ways.now count) }
     requires fails { FirstFailing ways.now count (Some way) }
     ensures most { result ≤ count }
-    ensures circle { (p : Prog) → StepRows (rows steps.now n) (call_graph p) → (cs : List Call) × FirstCircle p cs × (length cs ≡ result) × Part cs at part.new }
+    ensures circle { (p : Prog) → RowsOfSteps (rows steps.now n) (call_graph p) → (cs : List Call) × FirstCircle p cs × (length cs ≡ result) × Part cs at part.new }
 {
     let calls = count_steps(ways, way);
     write_calls(steps, ways, way, calls, at, part);

@@ -7,7 +7,7 @@ use Rattle.table.specs.declared.Edge.{Edge}
 use Rattle.table.specs.declared.Row.{Row}
 use Rattle.table.specs.Rows.{edge_of, row_at, rows}
 use Rattle.table.proofs.Rows.{length_rows, in_rows, rows_in, nth_rows, rows_nth, rows_ends}
-use Rattle.closure.specs.Ways.{Then, Upto, Grown, Goes_on, Complete, StepRows, WayRows, Sound, Fails}
+use Rattle.closure.specs.Ways.{Then, Upto, Grown, Goes_on, Complete, RowsOfSteps, RowsOfWays, Sound, Fails}
 use Rattle.closure.specs.Parts.{Entered, Followed, Kept, caller}
 use Rattle.closure.specs.Answers.{Whole}
 use Rattle.closure.proofs.Ways.{all_ways, many, each_length, sound_reason, fails_no_reason}
@@ -43,13 +43,13 @@ whole st n limit xs first m ys r p e le f lr kept =
     let c = complete st n limit xs first ys r e le (subst (λ (k : ℕ). Followed (rows st n) k r limit ys r) p f) lr kept in
     record { fits = lr; grown = f.grown; complete = c; ways = λ ss steps. let (ws, all, stand) = all_ways steps (rows_ends st n) f.grown c in (ws, all, sym (each_length stand) ∙ length_rows ys r, stand) }
 
-pub over : (st : List ℕ) (n limit : ℕ) (xs : List ℕ) (r : ℕ) → Grown (rows st n) (rows xs r) → limit < r → (ss : List Step) → StepRows (rows st n) ss → (ws : List Way1) × Ways ss ws × (limit < length ws)
+pub over : (st : List ℕ) (n limit : ℕ) (xs : List ℕ) (r : ℕ) → Grown (rows st n) (rows xs r) → limit < r → (ss : List Step) → RowsOfSteps (rows st n) ss → (ws : List Way1) × Ways ss ws × (limit < length ws)
 over st n limit xs r g l ss steps = let (ws, all, le) = many steps (rows_ends st n) g in (ws, all, omega (arith, le, length_rows xs r))
 
 -- The reason, from the rows.
 
-pub table_sound : (xs : List ℕ) (n : ℕ) (ss : List Step) (ws : List Way1) → Fine 64 8 ss → Ways ss ws → WayRows (rows xs n) ws → ((j : ℕ) → j < n → Sound (edge_of xs j)) → HasReason ss
+pub table_sound : (xs : List ℕ) (n : ℕ) (ss : List Step) (ws : List Way1) → Fine 64 8 ss → Ways ss ws → RowsOfWays (rows xs n) ws → ((j : ℕ) → j < n → Sound (edge_of xs j)) → HasReason ss
 table_sound xs n ss ws fine all stand sound = sound_reason fine all stand (λ j r at. let (l, is) = rows_nth xs n j at in subst (λ (q : Row). Sound q.edge) is (sound j l))
 
-pub table_fails : (xs : List ℕ) (n k : ℕ) (ss : List Step) (ws : List Way1) → Fine 64 8 ss → Ways ss ws → WayRows (rows xs n) ws → k < n → Fails (edge_of xs k) → HasReason ss → ⊥
+pub table_fails : (xs : List ℕ) (n k : ℕ) (ss : List Step) (ws : List Way1) → Fine 64 8 ss → Ways ss ws → RowsOfWays (rows xs n) ws → k < n → Fails (edge_of xs k) → HasReason ss → ⊥
 table_fails xs n k ss ws fine all stand l f = fails_no_reason k (row_at xs k) fine all stand (nth_rows xs n k l) f

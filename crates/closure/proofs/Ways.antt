@@ -11,7 +11,7 @@ use Rattle.table.specs.declared.Edge.{Edge}
 use Rattle.table.specs.declared.Row.{Row}
 use Rattle.table.specs.Rows.{Ends, row_at, rows}
 use Rattle.table.proofs.Rows.{edge_path, length_rows, nth_push, rows_nth}
-use Rattle.closure.specs.Ways.{Made, begun, gone_on, Grown, nothing, grow, Complete, Stands, Each, end, and, StepRows, WayRows, Sound, Fails}
+use Rattle.closure.specs.Ways.{Made, begun, gone_on, Grown, nothing, grow, Complete, Stands, Each, end, and, RowsOfSteps, RowsOfWays, Sound, Fails}
 
 -- Lists side by side, and one more at the end.
 
@@ -40,14 +40,14 @@ each_from_nth (x ∷ xs) [] e r = absurd (omega arith)
 each_from_nth (x ∷ xs) (y ∷ ys) e r = and (r 0 x y refl refl) (each_from_nth xs ys (omega arith) (λ i. r (suc i)))
 
 -- the rows of a table stand for the steps place by place
-pub steps_by_place : (xs : List ℕ) (n : ℕ) (ss : List Step) → length ss ≡ n → ((i : ℕ) (s : Step) → nth ss i ≡ some s → Stands (row_at xs i).edge s.caller s.callee s.arcs) → StepRows (rows xs n) ss
+pub steps_by_place : (xs : List ℕ) (n : ℕ) (ss : List Step) → length ss ≡ n → ((i : ℕ) (s : Step) → nth ss i ≡ some s → Stands (row_at xs i).edge s.caller s.callee s.arcs) → RowsOfSteps (rows xs n) ss
 steps_by_place xs n ss long each = each_from_nth (rows xs n) ss (length_rows xs n ∙ sym long) (λ i t s a b. subst (λ (r : Row). Stands r.edge s.caller s.callee s.arcs) (rows_nth xs n i a).1 (each i s b))
 
 -- A grown table stands for ways, no two of them alike.
 
 pub record Bridge (ss : List Step) (vs : List Row) : Type 0 where
   pub list : List Way1
-  pub stand : WayRows vs list
+  pub stand : RowsOfWays vs list
   pub are : (i : ℕ) (w : Way1) → nth list i ≡ some w → Way ss w.caller w.callee w.arcs
 
 bridge_push : (ss : List Step) (vs : List Row) (r : Row) (w : Way1) → Bridge ss vs → Stands r.edge w.caller w.callee w.arcs → Way ss w.caller w.callee w.arcs → Bridge ss (vs ++ r ∷ [])
@@ -56,7 +56,7 @@ bridge_push ss vs r w b st way = record { list = b.list ++ w ∷ []; stand = eac
     are : (i : ℕ) (u : Way1) → nth (b.list ++ w ∷ []) i ≡ some u → Way ss u.caller u.callee u.arcs
     are i u e = elim (nth_push b.list w i e) [ inl h ↦ b.are i u h | inr h ↦ subst (λ (x : Way1). Way ss x.caller x.callee x.arcs) h.1 way ]
 
-bridge_more : (ts vs : List Row) (ss : List Step) (r : Row) → StepRows ts ss → Bridge ss vs → Made ts vs r → Bridge ss (vs ++ r ∷ [])
+bridge_more : (ts vs : List Row) (ss : List Step) (r : Row) → RowsOfSteps ts ss → Bridge ss vs → Made ts vs r → Bridge ss (vs ++ r ∷ [])
 bridge_more ts vs ss r steps b (begun t from at e) =
     let (s, is, st) = each_nth r.step steps at in
     bridge_push ss vs r (record { caller = s.caller; callee = s.callee; arcs = s.arcs }) b (subst (λ (d : Edge). Stands d s.caller s.callee s.arcs) (sym e) st) (one s (nth_in ss r.step is))
@@ -67,7 +67,7 @@ bridge_more ts vs ss r steps b (gone_on k w t from way at e go) =
     (record { caller = go.caller ∙ vst.caller; callee = go.callee ∙ st.callee; words = go.graph v.arcs s.arcs vst.words st.words })
     (more s (b.are k v vis) (nth_in ss r.step is) (sym st.caller ∙ e ∙ vst.callee))
 
-pub bridge : {ts vs : List Row} {ss : List Step} → StepRows ts ss → Grown ts vs → Bridge ss vs
+pub bridge : {ts vs : List Row} {ss : List Step} → RowsOfSteps ts ss → Grown ts vs → Bridge ss vs
 bridge steps nothing = record { list = []; stand = end; are = λ i w e. let z : ◌≡◌ {A = ℕ} 0 1 = cc in absurd (omega arith) }
 bridge {ts} {ss = ss} steps (grow {vs = vs} r g made new before) = bridge_more ts vs ss r steps (bridge steps g) made
 
@@ -105,14 +105,14 @@ grown_different {ts} {vs} {ss} b g = record { are = b.are; differ = differ }
 
 -- A complete one stands for all the ways.
 
-listed : {vs : List Row} {ws : List Way1} {e : Edge} {f g : ℕ} {as₁ : List Arc} (r : Row) → WayRows vs ws → In r vs → r.edge ≡ e → Stands e f g as₁ → Listed ws f g as₁
+listed : {vs : List Row} {ws : List Way1} {e : Edge} {f g : ℕ} {as₁ : List Arc} (r : Row) → RowsOfWays vs ws → In r vs → r.edge ≡ e → Stands e f g as₁ → Listed ws f g as₁
 listed r stand i p st =
     let (j, at) = in_nth i in
     let (w, is, ws₁) = each_nth j stand at in
     let (callers, callees, alike) = stands_same p ws₁ st in
     (j, w, is, callers, callees, alike)
 
-pub complete_closed : {ts vs : List Row} {ss : List Step} → StepRows ts ss → (b : Bridge ss vs) → Grown ts vs → Complete ts vs → Closed ss b.list
+pub complete_closed : {ts vs : List Row} {ss : List Step} → RowsOfSteps ts ss → (b : Bridge ss vs) → Grown ts vs → Complete ts vs → Closed ss b.list
 complete_closed {ts} {vs} {ss} steps b g c = record { different = grown_different b g; has_steps = has_steps; has_more = has_more }
   where
     has_steps : (s : Step) → In s ss → Listed b.list s.caller s.callee s.arcs
@@ -130,7 +130,7 @@ complete_closed {ts} {vs} {ss} steps b g c = record { different = grown_differen
         let (r, ir, go, u) = c.ways i k q t qis tis (st.caller ∙ e ∙ sym qst.callee) in
         listed r b.stand ir refl (record { caller = go.caller ∙ qst.caller; callee = go.callee ∙ st.callee; words = go.graph w.arcs s.arcs qst.words st.words })
 
-pub fine_steps : {ts : List Row} {ss : List Step} → StepRows ts ss → ((t : Row) → In t ts → Ends t.edge) → Fine 64 8 ss
+pub fine_steps : {ts : List Row} {ss : List Step} → RowsOfSteps ts ss → ((t : Row) → In t ts → Ends t.edge) → Fine 64 8 ss
 fine_steps steps ends s i =
     let (k, at) = in_nth i in
     let (t, is, st) = each_nth k (each_flip steps) at in
@@ -139,10 +139,10 @@ fine_steps steps ends s i =
     let b = e.callee_below in
     record { caller_below = omega (arith, st.caller); callee_below = omega (arith, st.callee); arcs_fine = st.words.fine }
 
-pub all_ways : {ts vs : List Row} {ss : List Step} → StepRows ts ss → ((t : Row) → In t ts → Ends t.edge) → Grown ts vs → Complete ts vs → (ws : List Way1) × Ways ss ws × WayRows vs ws
+pub all_ways : {ts vs : List Row} {ss : List Step} → RowsOfSteps ts ss → ((t : Row) → In t ts → Ends t.edge) → Grown ts vs → Complete ts vs → (ws : List Way1) × Ways ss ws × RowsOfWays vs ws
 all_ways {ss = ss} steps ends g c = let b = bridge steps g in (b.list, closed_is_all 64 8 ss b.list (fine_steps steps ends) (complete_closed steps b g c), b.stand)
 
-pub many : {ts vs : List Row} {ss : List Step} → StepRows ts ss → ((t : Row) → In t ts → Ends t.edge) → Grown ts vs → (ws : List Way1) × Ways ss ws × (length vs ≤ length ws)
+pub many : {ts vs : List Row} {ss : List Step} → RowsOfSteps ts ss → ((t : Row) → In t ts → Ends t.edge) → Grown ts vs → (ws : List Way1) × Ways ss ws × (length vs ≤ length ws)
 many steps ends g =
     let b = bridge steps g in
     let (ws, all, le) = many_ways (fine_steps steps ends) (grown_different b g) in
@@ -150,10 +150,10 @@ many steps ends g =
 
 -- The reason.
 
-pub sound_reason : {vs : List Row} {ss : List Step} {ws : List Way1} → Fine 64 8 ss → Ways ss ws → WayRows vs ws → ((j : ℕ) (r : Row) → nth vs j ≡ some r → Sound r.edge) → HasReason ss
+pub sound_reason : {vs : List Row} {ss : List Step} {ws : List Way1} → Fine 64 8 ss → Ways ss ws → RowsOfWays vs ws → ((j : ℕ) (r : Row) → nth vs j ≡ some r → Sound r.edge) → HasReason ss
 sound_reason fine all stand sound = reason_listed fine all (λ j w at loop. let (r, is, st) = each_nth j (each_flip stand) at in sound j r is (st.caller ∙ loop ∙ sym st.callee) w.arcs st.words)
 
-pub fails_no_reason : {vs : List Row} {ss : List Step} {ws : List Way1} (j : ℕ) (r : Row) → Fine 64 8 ss → Ways ss ws → WayRows vs ws → nth vs j ≡ some r → Fails r.edge → HasReason ss → ⊥
+pub fails_no_reason : {vs : List Row} {ss : List Step} {ws : List Way1} (j : ℕ) (r : Row) → Fine 64 8 ss → Ways ss ws → RowsOfWays vs ws → nth vs j ≡ some r → Fails r.edge → HasReason ss → ⊥
 fails_no_reason j r fine all stand at f =
     let (w, is, st) = each_nth j stand at in
     no_reason j w fine all.different is (sym st.caller ∙ f.loop ∙ st.callee) (f.idempotent w.arcs st.words) (λ i l. f.none w.arcs st.words i)

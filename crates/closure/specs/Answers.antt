@@ -7,18 +7,18 @@ use Rattle.table.specs.declared.Row.{Row}
 use Rattle.table.specs.Rows.{edge_of, points, rows}
 use Rattle.closure.specs.declared.Closure.{Closure}
 use Rattle.closure.specs.declared.Closure.TheVariants.{All, Many}
-use Rattle.closure.specs.Ways.{Grown, Complete, StepRows, WayRows, Sound, Fails}
+use Rattle.closure.specs.Ways.{Grown, Complete, RowsOfSteps, RowsOfWays, Sound, Fails}
 
 -- the table has all the ways of the steps, n of them, in breadth-first order
 pub record Whole (ts : List Row) (limit : ℕ) (xs : List ℕ) (n : ℕ) : Type 0 where
   pub fits : n ≤ limit
   pub grown : Grown ts (rows xs n)
   pub complete : Complete ts (rows xs n)
-  pub ways : (ss : List Step) → StepRows ts ss → (ws : List Way1) × Ways ss ws × (length ws ≡ n) × WayRows (rows xs n) ws
+  pub ways : (ss : List Step) → RowsOfSteps ts ss → (ws : List Way1) × Ways ss ws × (length ws ≡ n) × RowsOfWays (rows xs n) ws
 
 abbrev pub ClosedBy : List Row → ℕ → List ℕ → Closure → Type 0
 ClosedBy ts limit xs (All n) = Whole ts limit xs n
-ClosedBy ts limit xs Many = (ss : List Step) → StepRows ts ss → (ws : List Way1) × Ways ss ws × (limit < length ws)
+ClosedBy ts limit xs Many = (ss : List Step) → RowsOfSteps ts ss → (ws : List Way1) × Ways ss ws × (limit < length ws)
 
 -- the first of n ways that fails, if one does
 abbrev pub FirstFailing : List ℕ → ℕ → Option ℕ → Type 0
@@ -31,4 +31,4 @@ ReasonBy ss (Some k) = HasReason ss → ⊥
 ReasonBy ss None = HasReason ss
 
 abbrev pub DecidesReason : List ℕ → ℕ → Option ℕ → Type 0
-DecidesReason xs n r = (ss : List Step) (ws : List Way1) → Fine points places ss → Ways ss ws → WayRows (rows xs n) ws → ReasonBy ss r
+DecidesReason xs n r = (ss : List Step) (ws : List Way1) → Fine points places ss → Ways ss ws → RowsOfWays (rows xs n) ws → ReasonBy ss r

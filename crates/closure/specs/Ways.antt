@@ -50,11 +50,11 @@ pub data Each {A B : Type 0} (R : A → B → Type 0) : List A → List B → Ty
   end : Each R [] []
   and : {x : A} {y : B} {xs : List A} {ys : List B} → R x y → Each R xs ys → Each R (x ∷ xs) (y ∷ ys)
 
-abbrev pub StepRows : List Row → List Step → Type 0
-StepRows ts ss = Each (λ (t : Row) (s : Step). Stands t.edge s.caller s.callee s.arcs) ts ss
+abbrev pub RowsOfSteps : List Row → List Step → Type 0
+RowsOfSteps ts ss = Each (λ (t : Row) (s : Step). Stands t.edge s.caller s.callee s.arcs) ts ss
 
-abbrev pub WayRows : List Row → List Way1 → Type 0
-WayRows vs ws = Each (λ (r : Row) (w : Way1). Stands r.edge w.caller w.callee w.arcs) vs ws
+abbrev pub RowsOfWays : List Row → List Way1 → Type 0
+RowsOfWays vs ws = Each (λ (r : Row) (w : Way1). Stands r.edge w.caller w.callee w.arcs) vs ws
 
 -- an edge is no loop, or not idempotent, or some place becomes a part of itself
 abbrev pub Sound : Edge → Type 0

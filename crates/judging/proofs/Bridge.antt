@@ -5,7 +5,7 @@ use Rattle.sizechange.specs.Theorems.{Fine}
 use Rattle.table.specs.Rows.{rows}
 use Rattle.callgraph.specs.StepRows.{StepRows}
 use Rattle.closure.specs.Answers.{Whole, ClosedBy, DecidesReason}
-use Rattle.closure.specs.Ways.{StepRows}
+use Rattle.closure.specs.Ways.{RowsOfSteps}
 use Rattle.closure.proofs.Ways.{steps_by_place}
 use Rattle.lang.specs.Program.{Prog}
 use Rattle.lang.specs.Steps.{call_graph}
@@ -16,7 +16,7 @@ use Rattle.judging.specs.declared.Verdict.TheVariants.{Ends, NoReason, NoProgram
 use Rattle.judging.specs.Verdicts.{Settles, VerdictSays}
 
 -- the rows stand for the steps
-pub steps_of : (xs : List ℕ) (ss : List Step) (n : ℕ) → StepRows xs ss n → StepRows (rows xs n) ss
+pub steps_of : (xs : List ℕ) (ss : List Step) (n : ℕ) → StepRows xs ss n → RowsOfSteps (rows xs n) ss
 steps_of xs ss n h = steps_by_place xs n ss h.number (λ i s e. let k = (h.each i s e).step in record { caller = k.caller_is; callee = k.callee_is; words = k.graph_is })
 
 pub settled_ends : (st : List ℕ) (n limit : ℕ) (xs : List ℕ) (count : ℕ) (ss : List Step) → Fine 64 8 ss → StepRows st ss n → Whole (rows st n) limit xs count → DecidesReason xs count None → Settles ss limit (graph.Ends count)
