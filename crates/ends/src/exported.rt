@@ -21,8 +21,7 @@ fn only(answer: u32) -> RanC
 }
 
 // `judge` for other languages: 0 ends, 1 no reason, 2 no program, 3 many, 4 few.
-#[unsafe(no_mangle)]
-pub extern "C" fn pegsienna_judge(program: &[u8], ways: u32, work: &mut [u32]) -> u32
+pub fn pegsienna_judge(program: &[u8], ways: u32, work: &mut [u32]) -> u32
     ensures { (x : JudgedT) × (result ≡ judged_number x) × JudgedPost program.now ways (length work.old) x }
 {
     match judge(program, ways, work) {
@@ -35,8 +34,7 @@ pub extern "C" fn pegsienna_judge(program: &[u8], ways: u32, work: &mut [u32]) -
 }
 
 // `go` for other languages: 0 a value, 1 full, 2 deep, 3 unproved, 4 a bad call, 5 out is full, 6 small.
-#[unsafe(no_mangle)]
-pub extern "C" fn pegsienna_go(
+pub fn pegsienna_go(
     program: &[u8],
     ways: u32,
     function: usize,

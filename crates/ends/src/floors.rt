@@ -51,8 +51,7 @@ pub(crate) fn too_small(
 }
 
 // The work words that judging a script of so many bytes wants, or the largest number where that is larger.
-#[unsafe(no_mangle)]
-pub extern "C" fn pegsienna_judge_words(bytes: usize, ways: u32) -> usize
+pub fn pegsienna_judge_words(bytes: usize, ways: u32) -> usize
     ensures { result ≡ min (16384 + (64 * bytes + 64 * ways)) (2 ^ 64 - 1) }
 {
     bytes
@@ -62,8 +61,7 @@ pub extern "C" fn pegsienna_judge_words(bytes: usize, ways: u32) -> usize
 }
 
 // The work words that a run wants: those of judging, four for each byte of the trees and each node of room, and 4,096 for each open call and one more.
-#[unsafe(no_mangle)]
-pub extern "C" fn pegsienna_go_words(
+pub fn pegsienna_go_words(
     bytes: usize,
     ways: u32,
     args: usize,
