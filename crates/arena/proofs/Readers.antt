@@ -1,8 +1,7 @@
 -- Reading trees from the last byte to the first: what holds at byte i, and one byte more.
-use Rattle.std.proofs.Common.{◌≡◌, ℕ, suc, ◌+◌, ◌-◌, ◌*◌, ◌<◌, ◌≤◌, ◌≢◌, List, [], ◌∷◌, ◌++◌, length, get_or, drop, set, sym, refl, ap, ◌∙◌, subst, ap₂, ⊎_elim, arith, get_or-set_other, get_or-set_same, below_more}
+use Rattle.std.proofs.Common.{◌≡◌, ℕ, suc, ◌+◌, ◌-◌, ◌*◌, ◌<◌, ◌≤◌, ◌≢◌, List, ◌∷◌, ◌++◌, length, get_or, drop, set, sym, ap, ◌∙◌, subst, ap₂, ⊎_elim, arith, get_or-set_other, get_or-set_same, below_more}
 use Rattle.std.proofs.lemmas.Bool.{cases_eq}
 use Rattle.std.proofs.lemmas.List.{drop_more, drop_all}
-use Rattle.lang.specs.Program.{Tree}
 use Rattle.lang.specs.Bytes.{bytes_of_tree, bytes_of_trees}
 use Rattle.arena.specs.Nodes.{tree, Sound, Grown, env, forest}
 use Rattle.arena.specs.Forests.{Read, NoTrees}

@@ -1,6 +1,5 @@
 -- The trees of the numbers on a stack.
-use Rattle.std.proofs.Common.{◌≡◌, ℕ, zero, suc, ◌<◌, ◌≤◌, ◌≢◌, List, [], ◌∷◌, length, get_or, set, refl, ap, ap₂, arith, get_or-set_other, get_or-set_same}
-use Rattle.lang.specs.Program.{Tree}
+use Rattle.std.proofs.Common.{◌≡◌, ℕ, zero, suc, ◌<◌, ◌≤◌, ◌≢◌, List, ◌∷◌, length, get_or, set, refl, ap, ap₂, arith, get_or-set_other, get_or-set_same}
 use Rattle.arena.specs.Nodes.{tree, Grown, env, forest}
 
 pub length_env : (ws st : List ℕ) (n : ℕ) → length (env ws st n) ≡ n

@@ -1,7 +1,6 @@
 -- A walk along the bytes of trees: one step.
-use Rattle.std.proofs.Common.{◌≡◌, ℕ, zero, suc, ◌+◌, ◌-◌, ◌*◌, ◌<◌, ◌≤◌, ◌≢◌, List, [], ◌∷◌, ◌++◌, length, get_or, set, sym, refl, ap, ◌∙◌, subst, ap₂, ⊎_elim, append-nil, arith, length-set, get_or-set_other, get_or-set_same}
+use Rattle.std.proofs.Common.{◌≡◌, ℕ, zero, suc, ◌+◌, ◌-◌, ◌*◌, ◌<◌, ◌≤◌, List, [], ◌∷◌, ◌++◌, length, get_or, set, sym, ap, ◌∙◌, subst, ap₂, ⊎_elim, append-nil, arith, length-set, get_or-set_other, get_or-set_same}
 use Rattle.std.proofs.lemmas.Bool.{cases_eq}
-use Rattle.lang.specs.Program.{Tree, leaf, node}
 use Rattle.lang.specs.Bytes.{bytes_of_tree, bytes_of_trees}
 use Rattle.arena.specs.Nodes.{tree, Sound, env, forest}
 use Rattle.arena.specs.Walks.{Walking}

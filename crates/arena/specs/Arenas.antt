@@ -1,7 +1,7 @@
 -- An arena: nodes in lent words, of which some are used, and a limit to how many are.
-use Rattle.std.specs.Prelude.{◌≡◌, ℕ, ◌+◌, ◌<◌, ◌≤◌, List, length}
-use Rattle.lang.specs.Program.{Tree, node}
-use Rattle.arena.specs.Nodes.{tree, Sound, Grown, Well as WellNodes}
+use Rattle.std.specs.Prelude.{◌≡◌, ℕ, ◌+◌, ◌<◌, List}
+use Rattle.lang.specs.Program.{node}
+use Rattle.arena.specs.Nodes.{tree, Grown, Well as WellNodes}
 use Rattle.arena.specs.declared.nodes.Arena.{Arena}
 
 abbrev pub words : Arena → List ℕ

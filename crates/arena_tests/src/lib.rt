@@ -1,4 +1,6 @@
 // Trees through an arena: deep ones, shared ones, and bytes that are none.
+#![tactic(auto)]
+
 ghost use Rattle.std.specs.Prelude.{◌≡◌, ◌≤◌, length, take, IfSome};
 ghost use Rattle.arena.specs.Arenas.{Well};
 

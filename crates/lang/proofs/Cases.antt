@@ -1,7 +1,7 @@
 -- The worked facts about Ackermann's function, as derivations.
-use Rattle.std.proofs.Common.{◌≡◌, ℕ, suc, List, [], ◌∷◌, refl}
+use Rattle.std.proofs.Common.{ℕ, suc, [], ◌∷◌, refl}
 use Rattle.lang.specs.Program.{leaf}
-use Rattle.lang.specs.Eval.{Outcome, val, Eval, tail, e_var, e_leaf, e_node, e_parts1, e_parts2, e_tail, e_call, e_call0, e_call1, a_nil, a_cons, a_bad, a_rest, is_deep}
+use Rattle.lang.specs.Eval.{val, Eval, tail, e_var, e_leaf, e_node, e_parts1, e_parts2, e_tail, e_call, e_call0, e_call1, a_nil, a_cons, a_bad, a_rest, is_deep}
 use Rattle.lang.specs.Ackermann.{ack, ack_program, n0, n1, n2, Worked}
 
 -- the body of ack(1, 0), with two nodes of room or more

@@ -1,12 +1,12 @@
 -- The laws, by derivations and by plain inductions.
 use Rattle.std.proofs.Common.{◌≡◌, ℕ, zero, suc, ◌+◌, ◌<◌, ◌≤◌, max, Bool, true, false, cond, ◌⊎◌, List, [], ◌∷◌, length, sym, refl, ap, subst, inl, inr, arith, length-append}
 use mathlib.Core.Option.{Option, some}
-use Rattle.sizechange.specs.Graph.{Arc, Step, In, here, there, nth, leads, compose, Way, one, more, Idempotent}
+use Rattle.sizechange.specs.Graph.{Arc, Step, In, here, nth, leads, compose, Way, one, more, Idempotent}
 use Rattle.sizechange.proofs.Arcs.{in_cons}
 use Rattle.lang.specs.Program.{Tree, leaf, node, Expr, var, a_leaf, a_node, parts, bind, call, Exprs, nil, cons, Fun, Prog}
-use Rattle.lang.specs.Eval.{Outcome, Outcomes, val, full, deep, vals, no_vals, Bad, is_full, is_deep, made, Mode, tail, inner, Eval, EvalAll, e_var, e_leaf, e_node, e_node1, e_node2, e_parts1, e_parts2, e_bind, e_bind1, e_tail, e_call, e_call0, e_call1, a_nil, a_cons, a_bad, a_rest, Calls}
+use Rattle.lang.specs.Eval.{Outcome, val, full, deep, vals, no_vals, Bad, is_full, is_deep, made, Mode, tail, inner, Eval, EvalAll, e_var, e_leaf, e_node, e_node1, e_node2, e_parts1, e_parts2, e_bind, e_bind1, e_tail, e_call, e_call0, e_call1, a_nil, a_cons, a_bad, a_rest}
 use Rattle.lang.specs.Steps.{From, known, part, origin, steps, steps_all, given, all_steps, call_graph, EndsForAReason}
-use Rattle.lang.specs.Laws.{first, passes, firsts, makes, opens, FromLeftToRight, LastPlace, Views, forms, Written, turned, exchanged, JudgedByHand, Forward, calls, calls_all, all_calls, AsManySteps, MoreIsEnough, Laws}
+use Rattle.lang.specs.Laws.{first, passes, firsts, makes, opens, FromLeftToRight, LastPlace, Views, Written, turned, exchanged, JudgedByHand, Forward, calls, calls_all, all_calls, MoreIsEnough, Laws}
 
 -- the two leaves that a call is given; a node where there is no room; a call where none may be opened
 leaves : {d r : ℕ} {ρ : List Tree} → EvalAll firsts d ρ (cons a_leaf (cons a_leaf nil)) r (vals (leaf ∷ leaf ∷ []) r)

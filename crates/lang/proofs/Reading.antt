@@ -1,6 +1,5 @@
 -- Bytes are the writing of one program at most, and of one list of trees at most.
-use Rattle.std.proofs.Common.{◌≡◌, ℕ, zero, suc, ◌+◌, ◌≤◌, Bool, true, false, ◌&&◌, T, eqb, ltb, leb, List, [], ◌∷◌, ◌++◌, length, sym, refl, ap, ◌∙◌, subst, append_assoc, one-add, arith, eqb→eq, leb→le}
-use mathlib.Core.Option.{Option, some, none}
+use Rattle.std.proofs.Common.{◌≡◌, ℕ, zero, suc, ◌+◌, ◌≤◌, ◌&&◌, T, ltb, leb, List, [], ◌∷◌, ◌++◌, length, sym, refl, ap, ◌∙◌, subst, append_assoc, one-add, arith, eqb→eq, leb→le}
 use Rattle.sizechange.specs.Graph.{nth}
 use Rattle.lang.specs.Program.{Tree, leaf, node, Expr, var, a_leaf, a_node, parts, bind, call, Exprs, nil, cons, Fun, Prog, count, max_args, max_functions, max_bytes}
 use Rattle.lang.specs.Bytes.{bytes_of_expr, bytes_of_exprs, bytes_of_prog, bytes_of_tree, bytes_of_trees, takes, ok, oks, all_ok, Program}

@@ -1,9 +1,8 @@
 -- A worked program: Ackermann's function on numbers, where a number is a node whose right part is the number before.
 -- ack(leaf, n) = node(leaf, n); ack(node(_, m), leaf) = ack(m, node(leaf, leaf)); ack(node(_, m), node(_, n)) = ack(m, ack(node(_, m), n))
 use Rattle.std.specs.Prelude.{◌≡◌, ℕ, List, [], ◌∷◌}
-use Rattle.sizechange.specs.Graph.{Arc, Step}
-use Rattle.lang.specs.Program.{Tree, leaf, node, Expr, var, a_leaf, a_node, parts, bind, call, Exprs, nil, cons, Fun, Prog}
-use Rattle.lang.specs.Eval.{Outcome, val, full, deep, Calls}
+use Rattle.lang.specs.Program.{Tree, leaf, node, var, a_leaf, a_node, parts, call, nil, cons, Fun, Prog}
+use Rattle.lang.specs.Eval.{val, full, deep, Calls}
 use Rattle.lang.specs.Steps.{call_graph}
 use Rattle.lang.specs.Bytes.{Program}
 

@@ -2,7 +2,7 @@
 use Rattle.std.specs.Prelude.{◌≡◌, ℕ, ◌+◌, ◌<◌, ◌≤◌, List, [], ◌∷◌, length}
 use Rattle.sizechange.specs.Graph.{Step, In}
 use Rattle.lang.specs.Program.{Tree, leaf, node, Expr, var, a_leaf, a_node, parts, bind, call, Exprs, nil, cons, Fun, Prog}
-use Rattle.lang.specs.Eval.{val, full, deep, no_vals, Mode, tail, inner, Eval, EvalAll, Calls}
+use Rattle.lang.specs.Eval.{val, full, deep, no_vals, tail, inner, Eval, EvalAll, Calls}
 use Rattle.lang.specs.Steps.{call_graph, EndsForAReason}
 use Rattle.lang.specs.Bytes.{Program, bytes_of_trees}
 

@@ -1,5 +1,5 @@
 -- Expressions read from the left, one head at a time.
-use Rattle.std.specs.Prelude.{ℕ, zero, suc, ◌≤◌, List, [], ◌∷◌}
+use Rattle.std.specs.Prelude.{ℕ, zero, suc, ◌≤◌, List, ◌∷◌}
 use Rattle.lang.specs.Program.{Expr, var, a_leaf, a_node, parts, bind, call, Exprs, nil, cons, max_args}
 
 -- Reads xs e ys: xs begins with the bytes of e, in which no call has more arguments than a function can take, and goes on with ys

@@ -1,6 +1,6 @@
 -- The theorems about the language, as types.
 use Rattle.std.specs.Prelude.{◌≡◌, ℕ, ◌+◌, T, List, length}
-use Rattle.std.proofs.Math.Option.{Option, some}
+use Rattle.std.proofs.Math.Option.{some}
 use Rattle.sizechange.specs.Graph.{nth, Way1}
 use Rattle.lang.specs.Program.{Tree, Expr, Prog, Fun}
 use Rattle.lang.specs.Eval.{Outcome, val, Mode, Eval, Calls}

@@ -1,4 +1,6 @@
 // The theorems about the language, each as the contract of a function: the code is nothing, the proof is all.
+#![tactic(auto)]
+
 ghost use Rattle.lang.specs.Ackermann.{Worked};
 ghost use Rattle.lang.specs.Laws.{Laws};
 ghost use Rattle.lang.specs.Theorems.{AlwaysEnds, HasAValue, EveryExpressionEnds, OneOutcome, OneDerivation, Finite, OneProgram, OneList, OneCircle};

@@ -1,4 +1,6 @@
 // Trees as text: read, refused and shown.
+#![tactic(auto)]
+
 use arena::nodes::NodeId;
 use arena::reading::read_trees;
 use readable::parsing::{Fault, Symbol, parse};

@@ -1,3 +1,5 @@
+#![tactic(auto)]
+
 ghost use Rattle.std.specs.Prelude.{◌≡◌, ℕ, ◌+◌, ◌-◌, ◌*◌, ◌^◌, ◌<◌, ◌≤◌, List, [], ◌∷◌, ◌++◌, map, length, take, MatchOption, MatchResult, slice_index, slice_index_or};
 ghost use Rattle.std.specs.Int.Digits.{digits_of};
 ghost use Rattle.lang.specs.Program.{node};

@@ -6,6 +6,6 @@ use Rattle.arena_tests.proofs.copy_tree.Goals as goal
 pub returns : goal.returns
 unfolding env
 returns c =
-    c.in-ok-k.ensures.bytes
-    ∙ sym (append-nil (bytes_of_tree (tree c.read-trees.new.nodes (get_or c.read-trees.new.stack 0 0))))
-    ∙ c.in-ok--used.ensures.trees
+    c.in_ok-k.ensures.bytes
+    ∙ sym (append-nil (bytes_of_tree (tree c.read_trees.new.nodes (get_or c.read_trees.new.stack 0 0))))
+    ∙ c.in_ok-_used.ensures.trees

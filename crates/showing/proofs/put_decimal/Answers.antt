@@ -10,9 +10,9 @@ pub returns : goal.returns
 returns c =
     let out = c.args.out.now in
     let n = c.args.n in
-    let front : c.args.at + c.count-digits-count.result - length (digits_of 10 n) ≡ c.args.at = omega arith in
+    let front : c.args.at + c.count_digits-count.result - length (digits_of 10 n) ≡ c.args.at = omega arith in
     record {
       long = omega (arith, length_decimal n c.requires.some);
       within = omega arith;
-      bytes = c.write-digits.ensures ∙ ap₂ (λ i x. take i out ++ x) front (sym (decimal_is n c.requires.some));
+      bytes = c.write_digits.ensures ∙ ap₂ (λ i x. take i out ++ x) front (sym (decimal_is n c.requires.some));
     }

@@ -8,21 +8,21 @@ pub loop-turn-init : goal.loop-turn-init
 loop-turn-init c = record {
   name = refl;
   long = refl;
-  printing = record { sound = c.requires.sound; numbers = c.find-numbers.ensures; there = omega arith; within = omega arith; next = (omega arith, omega arith); frames = λ j h. absurd (omega arith) };
+  printing = record { sound = c.requires.sound; numbers = c.find_numbers.ensures; there = omega arith; within = omega arith; next = (omega arith, omega arith); frames = λ j h. absurd (omega arith) };
   same = refl;
 }
 
 pub item-requires : goal.item-requires
 item-requires c = (ongoing_as c.in-Item.is c.loop-turn.invariant).printing
 
-pub returns-in-err-turn : goal.returns-in-err-turn
-returns-in-err-turn c = rw c.from-residual.ensures (too_long (ongoing_as c.in-Item.is c.loop-turn.invariant) c.in-err-turn.ensures)
+pub returns-in_err-turn-in-Item : goal.returns-in_err-turn-in-Item
+returns-in_err-turn-in-Item c = rw c.from_residual.ensures (too_long (ongoing_as c.in-Item.is c.loop-turn.invariant) c.in_err-turn-in-Item.ensures)
 
 pub loop-turn-smaller-in-Item : goal.loop-turn-smaller-in-Item
-loop-turn-smaller-in-Item c = omega (arith, c.in-ok-turn.ensures.less, ap (λ t. length (to_come c.loop-turn.printer t)) c.in-Item.is)
+loop-turn-smaller-in-Item c = omega (arith, c.in_ok-turn-in-Item.ensures.less, ap (λ t. length (to_come c.loop-turn.printer t)) c.in-Item.is)
 
 pub loop-turn-preserved-in-Item : goal.loop-turn-preserved-in-Item
-loop-turn-preserved-in-Item c = ongoing (ongoing_as c.in-Item.is c.loop-turn.invariant) c.in-ok-turn.ensures
+loop-turn-preserved-in-Item c = ongoing (ongoing_as c.in-Item.is c.loop-turn.invariant) c.in_ok-turn-in-Item.ensures
 
 pub returns-then-printer-eq0 : goal.returns-then-printer-eq0
 returns-then-printer-eq0 c =
@@ -33,11 +33,11 @@ returns-then-printer-eq0 c =
 pub ended-requires : goal.ended-requires
 ended-requires c = record { printing = (ongoing_as c.in-Ended.is c.loop-turn.invariant).printing; some = omega arith }
 
-pub returns-in-err-turn-2 : goal.returns-in-err-turn-2
-returns-in-err-turn-2 c = rw c.from-residual-in-err-turn-2.ensures (too_long (ongoing_as c.in-Ended.is c.loop-turn.invariant) c.in-err-turn-2.ensures)
+pub returns-in_err-turn-in-Ended : goal.returns-in_err-turn-in-Ended
+returns-in_err-turn-in-Ended c = rw c.from_residual-in_err-turn-in-Ended.ensures (too_long (ongoing_as c.in-Ended.is c.loop-turn.invariant) c.in_err-turn-in-Ended.ensures)
 
 pub loop-turn-smaller : goal.loop-turn-smaller
-loop-turn-smaller c = omega (arith, c.in-ok-turn-2.ensures.less, ap (λ t. length (to_come c.loop-turn.printer t)) c.in-Ended.is)
+loop-turn-smaller c = omega (arith, c.in_ok-turn-in-Ended.ensures.less, ap (λ t. length (to_come c.loop-turn.printer t)) c.in-Ended.is)
 
 pub loop-turn-preserved : goal.loop-turn-preserved
-loop-turn-preserved c = ongoing (ongoing_as c.in-Ended.is c.loop-turn.invariant) c.in-ok-turn-2.ensures
+loop-turn-preserved c = ongoing (ongoing_as c.in-Ended.is c.loop-turn.invariant) c.in_ok-turn-in-Ended.ensures

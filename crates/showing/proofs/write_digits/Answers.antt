@@ -6,8 +6,8 @@ use Rattle.showing.proofs.write_digits.Goals as goal
 pub loop-left-init : goal.loop-left-init
 loop-left-init c = backward_none c.args.n c.args.end c.args.out.now
 
-pub overflow-sub-at : goal.overflow-sub-at
-overflow-sub-at c = omega (arith, length-digits_of_step 10 c.loop-left.left (omega arith) c.loop-left-test.true)
+pub overflow_sub-at : goal.overflow_sub-at
+overflow_sub-at c = omega (arith, length-digits_of_step 10 c.loop-left.left (omega arith) c.loop-left-test.true)
 
 pub loop-left-preserved : goal.loop-left-preserved
 loop-left-preserved c = backward_more c.args.n c.args.end c.args.out.now c.loop-left.out c.loop-left.at c.loop-left.left c.requires.room (omega arith) c.loop-left-test.true c.loop-left.invariant

@@ -5,14 +5,14 @@ use Rattle.showing.specs.Printers.{frames_text}
 use Rattle.showing.proofs.Printouts.{no_room, frame_ended, second_text}
 use Rattle.showing.proofs.Printer.ended.Goals as goal
 
-pub returns-in-err-self : goal.returns-in-err-self
-returns-in-err-self c =
+pub returns-in_err-self-in-Second : goal.returns-in_err-self-in-Second
+returns-in_err-self-in-Second c =
     let p = c.args.self.now in
     let v = c.value-v.result in
-    rw c.from-residual.ensures (no_room p Ended (32 ∷ (decimal v ++ (41 ∷ []))) (frames_text p.nodes.now p.stack.now (p.height - 1)) c.requires.printing c.in-err-self.ensures (second_text p c.requires.some c.in-Second.n.0 v c.in-Second.is c.value-v.ensures))
+    rw c.from_residual.ensures (no_room p Ended (32 ∷ (decimal v ++ (41 ∷ []))) (frames_text p.nodes.now p.stack.now (p.height - 1)) c.requires.printing c.in_err-self-in-Second.ensures (second_text p c.requires.some c.in-Second.n.0 v c.in-Second.is c.value-v.ensures))
 
-pub returns-in-ok-self : goal.returns-in-ok-self
-returns-in-ok-self c =
+pub returns-in_ok-self-in-Second : goal.returns-in_ok-self-in-Second
+returns-in_ok-self-in-Second c =
     let p = c.args.self.now in
     let v = c.value-v.result in
-    frame_ended p c.put-second.new.out c.in-ok-self.field-0 (32 ∷ (decimal v ++ (41 ∷ []))) c.in-ok-self.ensures (omega arith) (omega arith) c.requires.printing c.requires.some (second_text p c.requires.some c.in-Second.n.0 v c.in-Second.is c.value-v.ensures)
+    frame_ended p c.put_second.new.out c.in_ok-self-in-Second.field-0 (32 ∷ (decimal v ++ (41 ∷ []))) c.in_ok-self-in-Second.ensures (omega arith) (omega arith) c.requires.printing c.requires.some (second_text p c.requires.some c.in-Second.n.0 v c.in-Second.is c.value-v.ensures)

@@ -6,29 +6,29 @@ use Rattle.readable.proofs.Steps.{not_flushed_space, not_flushed_mark, space_ste
 use Rattle.readable.specs.Parsers.{to_come}
 use Rattle.readable.proofs.parsing.Parser.byte.Goals as goal
 
-pub returns-in-err-n : goal.returns-in-err-n
-returns-in-err-n c =
+pub returns-in_err-n-in-Digit : goal.returns-in_err-n-in-Digit
+returns-in_err-n-in-Digit c =
     let p = c.args.self.now in
     let e = err_from_is_err_and c.from_residual.result c.from_residual.ensures.1 in
-    rw (e.1, e.2) (stopped_as c.in-err-n.field-0.0 c.args.place _ (digit_lex c.args.number c.args.c c.in-Digit.d (to_come p) (sym c.in-Digit.ensures)) c.in-err-n.ensures)
+    rw (e.1, e.2) (stopped_as c.in_err-n-in-Digit.field-0.0 c.args.place _ (digit_lex c.args.number c.args.c c.in-Digit.d (to_come p) (sym c.in-Digit.ensures)) c.in_err-n-in-Digit.ensures)
 
-pub returns-in-err-flush : goal.returns-in-err-flush
-returns-in-err-flush c =
-    let e = err_from_is_err_and c.from-residual-in-err-flush.result c.from-residual-in-err-flush.ensures.1 in
-    rw (e.1, e.2) (not_flushed_space c.args.number c.args.self.now c.args.c c.in-err-flush.field-0.0 c.args.place (sym c.in-Space.ensures) c.in-err-flush.ensures)
+pub returns-in_err-flush-in-Space : goal.returns-in_err-flush-in-Space
+returns-in_err-flush-in-Space c =
+    let e = err_from_is_err_and c.from_residual-in_err-flush-in-Space.result c.from_residual-in_err-flush-in-Space.ensures.1 in
+    rw (e.1, e.2) (not_flushed_space c.args.number c.args.self.now c.args.c c.in_err-flush-in-Space.field-0.0 c.args.place (sym c.in-Space.ensures) c.in_err-flush-in-Space.ensures)
 
-pub returns-in-err-flush-2 : goal.returns-in-err-flush-2
-returns-in-err-flush-2 c =
-    let e = err_from_is_err_and c.from-residual-in-err-flush-2.result c.from-residual-in-err-flush-2.ensures.1 in
-    rw (e.1, e.2) (not_flushed_mark c.args.number c.args.self.now c.args.c c.in-err-flush-2.field-0.0 c.args.place c.in-Mark.k (sym c.in-Mark.ensures) c.in-err-flush-2.ensures)
+pub returns-in_err-flush-in-Mark : goal.returns-in_err-flush-in-Mark
+returns-in_err-flush-in-Mark c =
+    let e = err_from_is_err_and c.from_residual-in_err-flush-in-Mark.result c.from_residual-in_err-flush-in-Mark.ensures.1 in
+    rw (e.1, e.2) (not_flushed_mark c.args.number c.args.self.now c.args.c c.in_err-flush-in-Mark.field-0.0 c.args.place c.in-Mark.k (sym c.in-Mark.ensures) c.in_err-flush-in-Mark.ensures)
 
-pub returns-in-err-take : goal.returns-in-err-take
-returns-in-err-take c =
-    let e = err_from_is_err_and c.from-residual-in-err-take.result c.from-residual-in-err-take.ensures.1 in
-    rw (e.1, e.2) (mark_stopped c.args.number c.args.self.now c.args.c c.flush-in-Mark.new.self c.in-err-take.field-0.0 c.args.place c.in-Mark.k (sym c.in-Mark.ensures) c.in-ok-flush-2.ensures c.in-err-take.ensures)
+pub returns-in_err-take-in-Mark : goal.returns-in_err-take-in-Mark
+returns-in_err-take-in-Mark c =
+    let e = err_from_is_err_and c.from_residual-in_err-take-in-Mark.result c.from_residual-in_err-take-in-Mark.ensures.1 in
+    rw (e.1, e.2) (mark_stopped c.args.number c.args.self.now c.args.c c.flush-in-Mark.new.self c.in_err-take-in-Mark.field-0.0 c.args.place c.in-Mark.k (sym c.in-Mark.ensures) c.in_ok-flush-in-Mark.ensures c.in_err-take-in-Mark.ensures)
 
-pub returns-in-ok-flush : goal.returns-in-ok-flush
-returns-in-ok-flush c = space_step c.args.number c.args.self.now c.args.c c.flush.new.self (sym c.in-Space.ensures) c.in-ok-flush.ensures
+pub returns-in_ok-flush-in-Space : goal.returns-in_ok-flush-in-Space
+returns-in_ok-flush-in-Space c = space_step c.args.number c.args.self.now c.args.c c.flush.new.self (sym c.in-Space.ensures) c.in_ok-flush-in-Space.ensures
 
-pub returns-in-ok-take : goal.returns-in-ok-take
-returns-in-ok-take c = mark_step c.args.number c.args.self.now c.args.c c.flush-in-Mark.new.self c.take.new.self c.in-Mark.k (sym c.in-Mark.ensures) c.in-ok-flush-2.ensures c.in-ok-take.ensures
+pub returns-in_ok-take-in-Mark : goal.returns-in_ok-take-in-Mark
+returns-in_ok-take-in-Mark c = mark_step c.args.number c.args.self.now c.args.c c.flush-in-Mark.new.self c.take.new.self c.in-Mark.k (sym c.in-Mark.ensures) c.in_ok-flush-in-Mark.ensures c.in_ok-take-in-Mark.ensures
