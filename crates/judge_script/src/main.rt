@@ -6,6 +6,7 @@ use ends::{Judged, judge};
 use inputs::{number, read_file};
 use judging::{Verdict, find_verdict};
 use std::env;
+use std::process::ExitCode;
 
 const MAX_SCRIPT: usize = 512;
 
@@ -64,10 +65,13 @@ fn run(rt: &HostRuntime) -> anyhow::Result<()> {
     show(rt, &buf[0..n], ways)
 }
 
-fn main(rt: HostRuntime) -> anyhow::Result<()> {
-    let result = run(&rt);
-    if let Err(e) = &result {
-        eprintln!(rt; "judge_script: {e}")?;
+// What went wrong is said in one line of its own; a `main` that returned the error would say it again.
+fn main(rt: HostRuntime) -> ExitCode {
+    match run(&rt) {
+        Ok(()) => ExitCode::SUCCESS,
+        Err(e) => {
+            let _said = eprintln!(rt; "judge_script: {e}");
+            ExitCode::FAILURE
+        }
     }
-    result
 }

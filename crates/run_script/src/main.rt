@@ -8,6 +8,7 @@ use readable::parsing::{Fault, Symbol, parse};
 use showing::{Frame, show};
 use std::env;
 use std::io::Write;
+use std::process::ExitCode;
 
 const MAX_SCRIPT: usize = 512;
 
@@ -184,10 +185,13 @@ fn run(rt: &HostRuntime) -> anyhow::Result<()> {
     run_on(rt, &script[0..n], depth, room, &input.as_slice()[0..m])
 }
 
-fn main(rt: HostRuntime) -> anyhow::Result<()> {
-    let result = run(&rt);
-    if let Err(e) = &result {
-        eprintln!(rt; "run_script: {e}")?;
+// What went wrong is said in one line of its own; a `main` that returned the error would say it again.
+fn main(rt: HostRuntime) -> ExitCode {
+    match run(&rt) {
+        Ok(()) => ExitCode::SUCCESS,
+        Err(e) => {
+            let _said = eprintln!(rt; "run_script: {e}");
+            ExitCode::FAILURE
+        }
     }
-    result
 }
