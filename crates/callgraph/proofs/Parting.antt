@@ -1,5 +1,5 @@
 -- From an expression that is visited to its parts that wait.
-use Rattle.std.proofs.Common.{◌≡◌, ℕ, zero, suc, ◌+◌, ◌-◌, ◌<◌, ◌≤◌, ◌&&◌, T, ltb, List, ◌∷◌, ◌++◌, length, get_or, drop, Some, sym, refl, ap, ◌∙◌, subst, append_assoc, arith, ltb→lt, length-drop}
+use Rattle.std.proofs.Common.{◌≡◌, ℕ, zero, suc, ◌+◌, ◌<◌, ◌≤◌, ◌&&◌, T, ltb, List, ◌∷◌, ◌++◌, length, get_or, drop, Some, sym, refl, ap, ◌∙◌, subst, append_assoc, arith, ltb→lt, length-drop}
 use mathlib.Core.Option.{Option}
 use Rattle.sizechange.specs.Graph.{Step, nth}
 use Rattle.lang.specs.Program.{Expr, var, a_leaf, a_node, parts, bind, call, Exprs, nil, cons, Prog, count, max_args}

@@ -1,7 +1,7 @@
 -- From an expression at a place to its parts.
 use Rattle.std.proofs.Common.{◌≡◌, ℕ, zero, suc, ◌+◌, ◌-◌, ◌<◌, ◌≤◌, T, List, length, get_or, drop, Some, sym, refl, ap, ◌∙◌, subst, add-one, arith, ltb→lt}
 use mathlib.Core.Option.{Option, none}
-use Rattle.lang.specs.Program.{Expr, var, parts, Exprs, cons, Prog}
+use Rattle.lang.specs.Program.{Expr, var, Exprs, cons, Prog}
 use Rattle.lang.specs.Bytes.{ok, oks}
 use Rattle.lang.specs.Reads.{Reads, ReadsAll, r_cons}
 use Rattle.lang.specs.Steps.{From, origin}

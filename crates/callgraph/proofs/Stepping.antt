@@ -1,8 +1,8 @@
 -- One step more in the rows.
-use Rattle.std.proofs.Common.{◌≡◌, ℕ, zero, suc, ◌+◌, ◌<◌, ◌≤◌, T, ◌⊎◌, List, [], ◌∷◌, ◌++◌, length, Some, Option, sym, refl, ap, ◌∙◌, subst, ⊎_elim, append-nil, arith, length-append}
+use Rattle.std.proofs.Common.{◌≡◌, ℕ, zero, suc, ◌+◌, ◌<◌, ◌≤◌, T, List, [], ◌∷◌, ◌++◌, length, Some, sym, refl, ap, ◌∙◌, subst, ⊎_elim, append-nil, arith, length-append}
 use mathlib.Core.Option as opt
 use Rattle.sizechange.specs.Graph.{Step, nth}
-use Rattle.lang.specs.Program.{Expr, call, Exprs, Fun, Prog, count}
+use Rattle.lang.specs.Program.{Expr, Exprs, Fun, Prog, count}
 use Rattle.lang.specs.Bytes.{ok, oks, takes}
 use Rattle.lang.specs.Steps.{From, arcs}
 use Rattle.lang.proofs.Lists.{both}

@@ -1,5 +1,5 @@
 -- Expressions that wait, while notes and words change elsewhere.
-use Rattle.std.proofs.Common.{◌≡◌, ℕ, ◌+◌, ◌-◌, ◌<◌, ◌≤◌, List, [], ◌++◌, get_or, sym, refl, subst, arith}
+use Rattle.std.proofs.Common.{◌≡◌, ℕ, ◌+◌, ◌<◌, ◌≤◌, List, [], ◌++◌, get_or, sym, refl, subst, arith}
 use mathlib.Core.Option.{Option}
 use Rattle.sizechange.specs.Graph.{Step}
 use Rattle.lang.specs.Program.{Expr, var, a_leaf, a_node, parts, bind, call, Prog}

@@ -1,4 +1,6 @@
 //! The call graph of a script: each call as a step from function to function, with its size-change graph, in rows of words.
+#![tactic(auto)]
+
 ghost use Rattle.std.specs.Prelude.{◌*◌, ◌≤◌, length};
 ghost use Rattle.callgraph.specs.Standing.{Room};
 ghost use Rattle.callgraph.specs.StepRows.{StepRows, most_steps};

@@ -10,7 +10,7 @@ use Rattle.table.specs.declared.Row.{Row}
 use Rattle.table.specs.Rows.{row_at}
 use Rattle.table.proofs.Rows.{nth_rows, length_rows}
 use Rattle.closure.specs.Ways.{Made, begun, gone_on}
-use Rattle.circles.specs.Paths.{Path, on, Traced, Run, Names, Named}
+use Rattle.circles.specs.Paths.{Path, Traced, Run, Names, Named}
 use Rattle.circles.proofs.Paths.{grown_made, path_some, path_none, path_last}
 
 -- Where a row of a traced table leads to.

@@ -1,4 +1,6 @@
 //! The first circle of a call graph without the reason: the calls of the first way that fails.
+#![tactic(auto)]
+
 ghost use Rattle.std.specs.Prelude.{◌≡◌, ℕ, suc, ◌+◌, ◌*◌, ◌<◌, ◌≤◌, List, length, Some, slice_index};
 ghost use Rattle.circles.specs.Paths.{Named, Names, Part, Path, Run, Traced};
 ghost use Rattle.closure.specs.Answers.{FirstFailing};

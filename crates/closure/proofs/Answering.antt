@@ -8,7 +8,7 @@ use Rattle.table.specs.declared.Row.{Row}
 use Rattle.table.specs.Rows.{edge_of, row_at, rows}
 use Rattle.table.proofs.Rows.{length_rows, in_rows, rows_in, nth_rows, rows_nth, rows_ends}
 use Rattle.closure.specs.Ways.{Then, Upto, Grown, Goes_on, Complete, RowsOfSteps, RowsOfWays, Sound, Fails}
-use Rattle.closure.specs.Parts.{Entered, Followed, Kept, caller}
+use Rattle.closure.specs.Parts.{Entered, Followed, Kept}
 use Rattle.closure.specs.Answers.{Whole}
 use Rattle.closure.proofs.Ways.{all_ways, many, each_length, sound_reason, fails_no_reason}
 

@@ -1,6 +1,6 @@
 -- From a table of ways to the ways themselves.
 use Rattle.std.proofs.Common.{◌≡◌, ℕ, zero, suc, ◌≤◌, ◌⊎◌, List, [], ◌∷◌, ◌++◌, length, sym, refl, ap, ◌∙◌, subst, inl, inr, arith}
-use mathlib.Core.Option.{some, none}
+use mathlib.Core.Option.{some}
 use Rattle.sizechange.specs.Graph.{Arc, Step, In, nth, compose, Way, one, more, Alike, HasReason, Way1, Listed, Different, Ways}
 use Rattle.sizechange.specs.Theorems.{Fine, Closed}
 use Rattle.sizechange.proofs.Lists.{nth_in, in_nth}

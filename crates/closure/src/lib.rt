@@ -1,4 +1,6 @@
 //! All the ways along a call graph, breadth-first in lent words, and the first without the reason.
+#![tactic(auto)]
+
 ghost use Rattle.std.specs.Prelude.{◌≡◌, ℕ, ◌+◌, ◌*◌, ◌^◌, ◌<◌, ◌≤◌, min, true, false, List, length};
 ghost use Rattle.closure.specs.Answers.{ClosedBy, DecidesReason, FirstFailing};
 ghost use Rattle.closure.specs.Parts.{Entered, Followed, Kept, Linked, Room};

@@ -1,18 +1,17 @@
 -- From rows of steps to the ways of a call graph and the reason.
-use Rattle.std.proofs.Common.{◌≡◌, ℕ, ◌<◌, ◌≤◌, List, length, Some, None, Option}
-use Rattle.sizechange.specs.Graph.{Step, HasReason, Way1, Ways}
+use Rattle.std.proofs.Common.{ℕ, List, Some, None}
+use Rattle.sizechange.specs.Graph.{Step}
 use Rattle.sizechange.specs.Theorems.{Fine}
 use Rattle.table.specs.Rows.{rows}
 use Rattle.callgraph.specs.StepRows.{StepRows}
-use Rattle.closure.specs.Answers.{Whole, ClosedBy, DecidesReason}
+use Rattle.closure.specs.Answers.{Whole, DecidesReason}
 use Rattle.closure.specs.Ways.{RowsOfSteps}
 use Rattle.closure.proofs.Ways.{steps_by_place}
 use Rattle.lang.specs.Program.{Prog}
 use Rattle.lang.specs.Steps.{call_graph}
 use Rattle.reading.specs.Tables.{Tables}
-use Rattle.judging.specs.declared.Verdict.{Verdict}
 use Rattle.judging.specs.declared.GraphVerdict.TheVariants as graph
-use Rattle.judging.specs.declared.Verdict.TheVariants.{Ends, NoReason, NoProgram, Many}
+use Rattle.judging.specs.declared.Verdict.TheVariants.{Ends, NoReason, Many}
 use Rattle.judging.specs.Verdicts.{Settles, VerdictSays}
 
 -- the rows stand for the steps

@@ -1,4 +1,6 @@
 // Judges a script: is it a program, what are its ways, has it the reason?
+#![tactic(auto)]
+
 ghost use Rattle.std.specs.Prelude.{ℕ, ◌+◌, ◌*◌, ◌/◌, ◌^◌, ◌<◌, ◌≤◌, List, length};
 ghost use Rattle.lang.specs.Program.{Prog};
 ghost use Rattle.lang.specs.Bytes.{Program};

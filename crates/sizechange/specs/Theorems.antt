@@ -1,6 +1,6 @@
 -- The theorems about ways and about chains of states, as types.
 use Rattle.std.specs.Prelude.{◌≡◌, ℕ, ◌<◌, ◌≤◌, List, length}
-use Rattle.std.proofs.Math.Option.{Option, some, none}
+use Rattle.std.proofs.Math.Option.{some}
 use mathlib.Core.WellFounded.{Acc}
 use Rattle.sizechange.specs.Graph.{Arc, Step, In, nth, compose, HasReason, Way1, Listed, Different, Ways}
 

@@ -1,4 +1,6 @@
 // The theorems about size-change graphs, each as the contract of a function: the code is nothing, the proof is all.
+#![tactic(auto)]
+
 ghost use Rattle.sizechange.specs.Theorems.{NoEndlessChain, FiniteWays, ClosedIsAll, DifferentAreFewer, OneNumber, Decided};
 
 // With the reason no chain of states is endless.

@@ -1,4 +1,6 @@
 //! Edges of a call graph in lent words, eight a row, each found by its hash chain.
+#![tactic(auto)]
+
 ghost use Rattle.std.specs.Prelude.{◌≡◌, ℕ, ◌+◌, ◌*◌, ◌/◌, ◌%◌, ◌^◌, ◌<◌, ◌≤◌, List, [], ◌∷◌, ◌++◌, length, Decides, ◌≢◌, slice_index};
 ghost use Rattle.table.specs.Index.{Added, Chained, Found, bucket_of};
 ghost use Rattle.table.specs.Rows.{Ends, SameRow, link_at, row_at, rows as list, width};

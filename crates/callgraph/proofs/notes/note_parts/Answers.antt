@@ -1,6 +1,6 @@
 use Rattle.std.proofs.Common.{◌≡◌, ℕ, ◌+◌, ◌≤◌, drop, Some, sym, refl, ap, ◌∙◌, subst, ⊎_elim, arith}
 use Rattle.lang.specs.Reads.{Reads}
-use Rattle.lang.specs.Steps.{origin, part}
+use Rattle.lang.specs.Steps.{part}
 use Rattle.origins.specs.Views.{Noted}
 use Rattle.reading.specs.declared.head.Head.{Head}
 use Rattle.reading.specs.declared.head.Head.TheVariants.{Var, Leaf, Node, Parts, Bind}

@@ -1,4 +1,4 @@
-use Rattle.std.proofs.Common.{◌+◌, ◌-◌, ◌++◌, sym, subst, arith}
+use Rattle.std.proofs.Common.{◌++◌, sym, subst, arith}
 use mathlib.Core.Option.{Option}
 use Rattle.graphs.specs.Words.{Words}
 use Rattle.lang.specs.Steps.{From, arc}
