@@ -1,20 +1,15 @@
 -- The promise of `go`, put together.
-use Rattle.std.proofs.Common.{◌≡◌, ℕ, ◌^◌, ◌<◌, ◌≤◌, Bool, true, false, ◌⊎◌, ◌↔◌, List, length, sym, refl, subst, inl, inr, arith}
-use mathlib.Core.Option.{some}
+use Rattle.std.proofs.Common.{◌≡◌, ℕ, ◌^◌, ◌<◌, Bool, true, false, ◌↔◌, List, refl, arith}
 use Rattle.std.proofs.lemmas.Bool.{both_ways}
-use Rattle.sizechange.specs.Graph.{nth}
-use Rattle.lang.specs.Program.{Tree, Fun, Prog}
+use Rattle.lang.specs.Program.{Prog}
 use Rattle.lang.specs.Eval.{Outcome}
 use Rattle.lang.specs.Steps.{EndsForAReason}
-use Rattle.lang.specs.Bytes.{bytes_of_trees}
 use Rattle.judging.specs.Verdicts.{Judgeable}
 use Rattle.calling.specs.declared.Called.{Called}
 use Rattle.calling.specs.declared.Called.TheVariants as called
 use Rattle.calling.specs.Calling.{ComesTo, CalledSays}
-use Rattle.ends.specs.declared.Judged.TheVariants.{NoReason, NoProgram, Many}
 use Rattle.ends.specs.declared.Ran.{Ran}
-use Rattle.ends.specs.declared.Ran.TheVariants.{Value, Full, Deep, Unproved, BadCall, OutFull, Small}
-use Rattle.ends.specs.Judging.{JudgedSays}
+use Rattle.ends.specs.declared.Ran.TheVariants.{Unproved, Small}
 use Rattle.ends.specs.Going.{Ready, Comes, GoSays, TooSmall, GoPost, answer_of, Left}
 use Rattle.ends.proofs.Posts.{theorems}
 use Rattle.ends.proofs.Rooms.{no_more_room}

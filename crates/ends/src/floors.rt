@@ -61,13 +61,7 @@ pub fn pegsienna_judge_words(bytes: usize, ways: u32) -> usize
 }
 
 // The work words that a run wants: those of judging, four for each byte of the trees and each node of room, and 4,096 for each open call and one more.
-pub fn pegsienna_go_words(
-    bytes: usize,
-    ways: u32,
-    args: usize,
-    depth: u32,
-    room: u32,
-) -> usize
+pub fn pegsienna_go_words(bytes: usize, ways: u32, args: usize, depth: u32, room: u32) -> usize
     ensures { result ≡ min ((16384 + (64 * bytes + 64 * ways)) + (4 * (args + room) + 4096 * (depth + 1))) (2 ^ 64 - 1) }
 {
     let nodes = args

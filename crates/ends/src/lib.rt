@@ -1,4 +1,6 @@
 // The two public calls, and what they answer.
+#![tactic(auto)]
+
 mod exported;
 mod floors;
 mod go_call;

@@ -19,8 +19,8 @@ use Rattle.ends.specs.declared.Judged.TheVariants.{Ends, NoReason, NoProgram, Ma
 use Rattle.ends.specs.declared.Ran.{Ran}
 use Rattle.ends.specs.declared.Ran.TheVariants.{Value, Full, Deep, Unproved, BadCall, OutFull, Small}
 use Rattle.ends.specs.declared.RanC.{RanC}
-use Rattle.ends.specs.Judging.{JudgedSays, JudgedPost, floor}
-use Rattle.ends.specs.Going.{Ready, Comes, GoSays, TooSmall, GoPost}
+use Rattle.ends.specs.Judging.{JudgedSays}
+use Rattle.ends.specs.Going.{Ready, Comes, GoSays}
 use Rattle.ends.specs.Exported.{judged_number, ran_numbers}
 use Rattle.exact.specs.Exact.{OneJudgement, OneRun, OneNumberEach}
 

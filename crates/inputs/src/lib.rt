@@ -1,4 +1,6 @@
 // What the programs read: files and numbers, within limits, with messages that say what is wrong.
+#![tactic(auto)]
+
 ghost use Rattle.std.specs.Prelude.{◌≤◌, length, IfOk};
 
 use anyhow::anyhow;

@@ -1,4 +1,6 @@
 // Says of a script whether it ends, and how many ways it has.
+#![tactic(auto)]
+
 ghost use Rattle.std.specs.Prelude.{◌+◌, ◌*◌, ◌≤◌, length};
 
 use anyhow::anyhow;

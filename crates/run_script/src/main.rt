@@ -1,4 +1,6 @@
 // Runs function 0 of a script on trees in readable form, one for each line of standard input.
+#![tactic(auto)]
+
 use anyhow::anyhow;
 use arena::nodes::NodeId;
 use arena::reading::read_trees;

@@ -1,4 +1,4 @@
-use Rattle.std.proofs.Common.{◌≡◌, ◌^◌, ◌<◌, length, sym, refl, subst, inl, inr, arith}
+use Rattle.std.proofs.Common.{◌^◌, ◌<◌, length, sym, refl, subst, inl, inr, arith}
 use Rattle.ends.specs.declared.Ran.{Ran}
 use Rattle.ends.specs.Going.{GoPost}
 use Rattle.ends.proofs.Posts.{says_none}
