@@ -1,6 +1,5 @@
 use ends::{Ran, go};
 use std::process::Abort;
-use std::test::Fail;
 
 const WORDS: usize = 60000;
 
@@ -22,15 +21,16 @@ fn refused(
     function: usize,
     args: &[u8],
     answer: Ran,
-) -> Result<(), Fail> {
+    what: &str,
+) {
     let mut work = [0u32; WORDS];
     let mut out = [9u8; 4];
     assert_eq!(rt;
         go(script, ways, function, args, 1, 3, &mut out, &mut work),
-        answer
+        answer,
+        "{what}"
     );
-    assert_eq!(rt; out, [9, 9, 9, 9], "out is as it was");
-    Ok(())
+    assert_eq!(rt; out, [9, 9, 9, 9], "{what}: out is as it was");
 }
 
 #[test]
@@ -85,12 +85,20 @@ fn just_enough(rt: HostRuntime) {
 }
 
 #[test]
-fn refusals(rt: HostRuntime) -> Result<(), Fail> {
-    refused(&rt, &ACK, 2, 1, &[0, 0], Ran::BadCall).note("no such function")?;
-    refused(&rt, &ACK, 2, 0, &[0], Ran::BadCall).note("one tree too few")?;
-    refused(&rt, &ACK, 2, 0, &[0, 0, 0], Ran::BadCall).note("one too many")?;
-    refused(&rt, &ACK, 2, 0, &[0, 2], Ran::BadCall).note("no tree")?;
-    refused(&rt, &ACK, 1, 0, &[0, 0], Ran::Unproved).note("more ways than allowed")?;
+fn refusals(rt: HostRuntime) {
+    refused(&rt, &ACK, 2, 1, &[0, 0], Ran::BadCall, "no such function");
+    refused(&rt, &ACK, 2, 0, &[0], Ran::BadCall, "one tree too few");
+    refused(&rt, &ACK, 2, 0, &[0, 0, 0], Ran::BadCall, "one too many");
+    refused(&rt, &ACK, 2, 0, &[0, 2], Ran::BadCall, "no tree");
+    refused(
+        &rt,
+        &ACK,
+        1,
+        0,
+        &[0, 0],
+        Ran::Unproved,
+        "more ways than allowed",
+    );
     refused(
         &rt,
         &[2, 3, 0, 1, 5, 0, 2, 0, 3, 0, 2],
@@ -98,10 +106,18 @@ fn refusals(rt: HostRuntime) -> Result<(), Fail> {
         0,
         &[0, 0],
         Ran::Unproved,
-    )
-    .note("no reason")?;
-    refused(&rt, &[9], 9, 0, &[0, 0], Ran::Unproved).note("no program")?;
-    refused(&rt, &[9], 5000, 0, &[0, 0], Ran::Small).note("small before unproved")
+        "no reason",
+    );
+    refused(&rt, &[9], 9, 0, &[0, 0], Ran::Unproved, "no program");
+    refused(
+        &rt,
+        &[9],
+        5000,
+        0,
+        &[0, 0],
+        Ran::Small,
+        "small before unproved",
+    );
 }
 
 #[test]

@@ -2,7 +2,6 @@ ghost use Rattle.std.specs.Prelude.{◌≤◌, length};
 
 use ends::{Judged, judge};
 use std::process::Abort;
-use std::test::Fail;
 
 const WORDS: usize = 20000;
 
@@ -13,21 +12,20 @@ fn judged(script: &[u8], ways: u32) -> Judged {
 }
 
 // The verdict, and that the script has just so many ways: with one less allowed there are too many.
-fn check_judged(rt: &impl Abort, script: &[u8], ways: u32, verdict: Judged) -> Result<(), Fail> {
-    assert_eq!(rt; judged(script, ways), verdict);
+fn check_judged(rt: &impl Abort, script: &[u8], ways: u32, verdict: Judged, what: &str) {
+    assert_eq!(rt; judged(script, ways), verdict, "{what}");
     if ways == 0 {
-        return Ok(());
+        return;
     }
     assert_eq!(rt;
         judged(script, ways - 1),
         Judged::Many,
-        "one way less allowed"
+        "{what}: one way less allowed"
     );
-    Ok(())
 }
 
 #[test]
-fn worked_scripts(rt: HostRuntime) -> Result<(), Fail> {
+fn worked_scripts(rt: HostRuntime) {
     check_judged(
         &rt,
         &[
@@ -35,85 +33,103 @@ fn worked_scripts(rt: HostRuntime) -> Result<(), Fail> {
         ],
         2,
         Judged::Ends,
-    )
-    .note("Ackermann's function")?;
-    check_judged(&rt, &[2, 3, 0, 1, 5, 0, 2, 0, 3, 0, 0], 3, Judged::Ends).note(
+        "Ackermann's function",
+    );
+    check_judged(
+        &rt,
+        &[2, 3, 0, 1, 5, 0, 2, 0, 3, 0, 0],
+        3,
+        Judged::Ends,
         "f(y, right part of x)",
-    )?;
-    check_judged(&rt, &[2, 3, 0, 1, 5, 0, 2, 0, 3, 0, 2], 2, Judged::NoReason).note("f(y, x)")?;
+    );
+    check_judged(
+        &rt,
+        &[2, 3, 0, 1, 5, 0, 2, 0, 3, 0, 2],
+        2,
+        Judged::NoReason,
+        "f(y, x)",
+    );
     check_judged(
         &rt,
         &[1, 3, 0, 1, 5, 1, 1, 0, 2, 1, 3, 0, 1, 5, 0, 1, 0, 0],
         5,
         Judged::Ends,
-    )
-    .note("f and g in turn")?;
+        "f and g in turn",
+    );
     check_judged(
         &rt,
         &[1, 3, 0, 1, 5, 1, 1, 0, 2, 1, 5, 0, 1, 2, 0, 0, 1],
         5,
         Judged::NoReason,
-    )
-    .note("g with node(x, leaf)")?;
-    check_judged(&rt, &[0, 5, 0, 0], 1, Judged::NoReason).note("f() = f()")?;
-    check_judged(&rt, &[0, 5, 1, 0, 0, 1], 1, Judged::Ends).note("f() = g()")?;
-    check_judged(&rt, &[1, 4, 0, 0, 3, 0, 1, 5, 0, 1, 0, 0], 1, Judged::Ends).note(
+        "g with node(x, leaf)",
+    );
+    check_judged(&rt, &[0, 5, 0, 0], 1, Judged::NoReason, "f() = f()");
+    check_judged(&rt, &[0, 5, 1, 0, 0, 1], 1, Judged::Ends, "f() = g()");
+    check_judged(
+        &rt,
+        &[1, 4, 0, 0, 3, 0, 1, 5, 0, 1, 0, 0],
+        1,
+        Judged::Ends,
         "a bound variable",
-    )?;
+    );
     check_judged(
         &rt,
         &[3, 3, 0, 1, 5, 0, 3, 0, 3, 0, 4, 0, 0],
         5,
         Judged::Ends,
-    )
-    .note("three arguments turned")
+        "three arguments turned",
+    );
 }
 
 #[test]
-fn traps(rt: HostRuntime) -> Result<(), Fail> {
+fn traps(rt: HostRuntime) {
     check_judged(
         &rt,
         &[1, 3, 0, 1, 3, 0, 1, 5, 0, 1, 2, 0, 1, 0, 0],
         1,
         Judged::NoReason,
-    )
-    .note("the sum falls, by a node made anew of parts")?;
+        "the sum falls, by a node made anew of parts",
+    );
     check_judged(
         &rt,
         &[1, 4, 2, 0, 0, 1, 3, 0, 1, 5, 0, 1, 0, 1],
         1,
         Judged::NoReason,
-    )
-    .note("a part of a bound value")?;
+        "a part of a bound value",
+    );
     check_judged(
         &rt,
         &[1, 3, 0, 1, 5, 1, 1, 0, 0, 1, 5, 0, 1, 2, 1, 2, 1, 0, 0],
         5,
         Judged::NoReason,
-    )
-    .note("smaller and larger in turns")?;
+        "smaller and larger in turns",
+    );
     check_judged(
         &rt,
         &[2, 3, 0, 1, 5, 1, 2, 0, 0, 0, 3, 2, 5, 0, 2, 0, 1, 0, 1],
         5,
         Judged::NoReason,
-    )
-    .note("compared with the wrong place")?;
+        "compared with the wrong place",
+    );
     check_judged(
         &rt,
         &[2, 3, 0, 1, 3, 3, 1, 2, 5, 0, 2, 0, 2, 1, 5, 0, 2, 1, 0, 0],
         3,
         Judged::NoReason,
-    )
-    .note("each step is fine, and two after another are not")?;
-    check_judged(&rt, &[1, 4, 1, 3, 0, 1, 5, 0, 1, 0, 3], 1, Judged::NoReason).note(
+        "each step is fine, and two after another are not",
+    );
+    check_judged(
+        &rt,
+        &[1, 4, 1, 3, 0, 1, 5, 0, 1, 0, 3],
+        1,
+        Judged::NoReason,
         "a call that can't be reached",
-    )
+    );
 }
 
 #[test]
-fn answers_in_order(rt: HostRuntime) -> Result<(), Fail> {
-    check_judged(&rt, &[], 0, Judged::Ends).note("no functions")?;
+fn answers_in_order(rt: HostRuntime) {
+    check_judged(&rt, &[], 0, Judged::Ends, "no functions");
     assert_eq!(rt;
         judged(&[0, 5, 0, 0], 0),
         Judged::Many,
@@ -137,5 +153,4 @@ fn answers_in_order(rt: HostRuntime) -> Result<(), Fail> {
         Judged::Few,
         "few before no program"
     );
-    Ok(())
 }

@@ -1,4 +1,6 @@
 // Worked scripts and bad input, as tests.
+#![tactic(auto)]
+
 #[cfg(test)]
 mod go_tests;
 #[cfg(test)]

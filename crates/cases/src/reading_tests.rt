@@ -1,7 +1,6 @@
 ghost use Rattle.std.specs.Prelude.{◌≤◌, length};
 
 use reading::program::read_program;
-use std::test::Fail;
 
 const ROOM: usize = 4104;
 
@@ -87,19 +86,18 @@ fn no_calls(rt: HostRuntime) {
 }
 
 #[test]
-fn limits(rt: HostRuntime) -> Result<(), Fail> {
+fn limits(rt: HostRuntime) {
     let mut script = [0u8; 130];
     for i in 0..65usize {
         script[2 * i + 1] = 1;
     }
     assert_eq!(rt; functions(&script[0..128]), Some(64), "64 functions");
     assert_eq!(rt; functions(&script), None, "65 functions");
-    Ok(())
 }
 
 // A body of one deep nest: nodes within nodes, 4,096 bytes with the number of arguments.
 #[test]
-fn long_scripts(rt: HostRuntime) -> Result<(), Fail> {
+fn long_scripts(rt: HostRuntime) {
     let mut script = [1u8; 4097];
     script[0] = 0;
     for i in 1..2048usize {
@@ -115,5 +113,4 @@ fn long_scripts(rt: HostRuntime) -> Result<(), Fail> {
     let mut flat = [1u8; 4097];
     flat[0] = 0;
     assert_eq!(rt; functions(&flat), None, "4,097 bytes");
-    Ok(())
 }
