@@ -26,6 +26,8 @@ BY_HAND = {
     "judgedNumber": "judged_number",
     "judgedNumbers": "judged_numbers",
     "ranNumbers": "ran_numbers",
+    # port.py has turned this one, as a word and not as a fact
+    "Goes_on": "GoesOn",
     # callgraph has StepRows
     "Step-rows": "RowsOfSteps",
     "Way-rows": "RowsOfWays",

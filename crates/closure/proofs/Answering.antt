@@ -7,7 +7,7 @@ use Rattle.table.specs.declared.Edge.{Edge}
 use Rattle.table.specs.declared.Row.{Row}
 use Rattle.table.specs.Rows.{edge_of, row_at, rows}
 use Rattle.table.proofs.Rows.{length_rows, in_rows, rows_in, nth_rows, rows_nth, rows_ends}
-use Rattle.closure.specs.Ways.{Then, Upto, Grown, Goes_on, Complete, RowsOfSteps, RowsOfWays, Sound, Fails}
+use Rattle.closure.specs.Ways.{Then, Upto, Grown, GoesOn, Complete, RowsOfSteps, RowsOfWays, Sound, Fails}
 use Rattle.closure.specs.Parts.{Entered, Followed, Kept}
 use Rattle.closure.specs.Answers.{Whole}
 use Rattle.closure.proofs.Ways.{all_ways, many, each_length, sound_reason, fails_no_reason}
@@ -31,7 +31,7 @@ complete st n limit xs first ys r e le f lr kept = record { steps = steps; ways 
     steps : (i : ℕ) (t : Row) → nth (rows st n) i ≡ some t → (q : Row) × In q (rows ys r) × (q.edge ≡ t.edge) × Upto 0 i q
     steps i t at = let (j, l, same, from, step) = found i t at in (row_at ys j, in_rows ys r j (omega (arith, f.few)), same, inr (from, step))
 
-    ways : (k i : ℕ) (w t : Row) → nth (rows ys r) k ≡ some w → nth (rows st n) i ≡ some t → t.edge.caller ≡ w.edge.callee → Goes_on (rows ys r) w.edge t.edge k i
+    ways : (k i : ℕ) (w t : Row) → nth (rows ys r) k ≡ some w → nth (rows st n) i ≡ some t → t.edge.caller ≡ w.edge.callee → GoesOn (rows ys r) w.edge t.edge k i
     ways k i w t wk at meets =
         let (j, l, same, from, step) = found i t at in
         let (lk, is) = rows_nth ys r k wk in

@@ -7,7 +7,7 @@ use Rattle.table.specs.declared.Edge.{Edge}
 use Rattle.table.specs.declared.Row.{Row}
 use Rattle.table.specs.Rows.{edge_of, row_at, rows}
 use Rattle.table.specs.Index.{Added, Chained}
-use Rattle.closure.specs.Ways.{Then, Made, gone_on, Before, Grown, Goes_on}
+use Rattle.closure.specs.Ways.{Then, Made, gone_on, Before, Grown, GoesOn}
 use Rattle.closure.specs.Parts.{First, Linked, Followed, Kept, caller}
 use Rattle.closure.proofs.Linking.{linked_kept}
 use Rattle.table.proofs.Rows.{nth_rows, rows_same}
@@ -15,8 +15,8 @@ use Rattle.closure.proofs.Growing.{grown_added, grown_before, grown_step, added_
 
 -- Rows that are kept go on as they did.
 
-goes_kept : (xs ys : List ℕ) (count : ℕ) (vs : List Row) → Kept xs count ys → (i j : ℕ) → i < count → j < count → Goes_on vs (edge_of xs i) (edge_of xs j) i (row_at xs j).step → Goes_on vs (edge_of ys i) (edge_of ys j) i (row_at ys j).step
-goes_kept xs ys count vs kept i j li lj = subst₂ (λ (w v : Row). Goes_on vs w.edge v.edge i v.step) (sym (kept i li)) (sym (kept j lj))
+goes_kept : (xs ys : List ℕ) (count : ℕ) (vs : List Row) → Kept xs count ys → (i j : ℕ) → i < count → j < count → GoesOn vs (edge_of xs i) (edge_of xs j) i (row_at xs j).step → GoesOn vs (edge_of ys i) (edge_of ys j) i (row_at ys j).step
+goes_kept xs ys count vs kept i j li lj = subst₂ (λ (w v : Row). GoesOn vs w.edge v.edge i v.step) (sym (kept i li)) (sym (kept j lj))
 
 meets_kept : (xs ys : List ℕ) (count : ℕ) → Kept xs count ys → (i j : ℕ) → i < count → j < count → caller ys j ≡ (edge_of ys i).callee → caller xs j ≡ (edge_of xs i).callee
 meets_kept xs ys count kept i j li lj e = sym (ap (λ (z : Row). z.edge.caller) (kept j lj)) ∙ e ∙ ap (λ (z : Row). z.edge.callee) (kept i li)
@@ -28,23 +28,23 @@ followed_kept ts first k limit xs ys count here kept f =
     same : rows xs count ≡ rows ys count
     same = sym (rows_same xs ys count kept)
 
-    has : count ≤ limit → (i j : ℕ) → i < k → j < first → caller ys j ≡ (edge_of ys i).callee → Goes_on (rows ys count) (edge_of ys i) (edge_of ys j) i (row_at ys j).step
+    has : count ≤ limit → (i j : ℕ) → i < k → j < first → caller ys j ≡ (edge_of ys i).callee → GoesOn (rows ys count) (edge_of ys i) (edge_of ys j) i (row_at ys j).step
     has le i j li lj e =
         let lc : i < count = omega arith in
         let ld : j < count = omega (arith, f.few) in
-        goes_kept xs ys count (rows ys count) kept i j lc ld (subst (λ (vs : List Row). Goes_on vs (edge_of xs i) (edge_of xs j) i (row_at xs j).step) same (f.has le i j li lj (meets_kept xs ys count kept i j lc ld e)))
+        goes_kept xs ys count (rows ys count) kept i j lc ld (subst (λ (vs : List Row). GoesOn vs (edge_of xs i) (edge_of xs j) i (row_at xs j).step) same (f.has le i j li lj (meets_kept xs ys count kept i j lc ld e)))
 
 -- way k has been followed by the steps below s
 pub record Following (ts : List Row) (first k s limit : ℕ) (xs : List ℕ) (count : ℕ) : Type 0 where
   pub grown : Grown ts (rows xs count)
   pub are_steps : (j : ℕ) → j < first → (row_at xs j).from ≡ 0
   pub none_later : (q : Row) → In q (rows xs count) → (q.from ≤ k) ⊎ ((q.from ≡ suc k) × ((j : ℕ) → s ≤ j → j < first → q.step < (row_at xs j).step))
-  pub has : count ≤ limit → (i j : ℕ) → (i < k) ⊎ ((i ≡ k) × (j < s)) → j < first → caller xs j ≡ (edge_of xs i).callee → Goes_on (rows xs count) (edge_of xs i) (edge_of xs j) i (row_at xs j).step
+  pub has : count ≤ limit → (i j : ℕ) → (i < k) ⊎ ((i ≡ k) × (j < s)) → j < first → caller xs j ≡ (edge_of xs i).callee → GoesOn (rows xs count) (edge_of xs i) (edge_of xs j) i (row_at xs j).step
 
 pub following_none : (ts : List Row) (first k s limit : ℕ) (xs : List ℕ) (count : ℕ) → Followed ts first k limit xs count → First (caller xs) 0 first (edge_of xs k).callee s → Following ts first k s limit xs count
 following_none ts first k s limit xs count f x = record { grown = f.grown; are_steps = f.are_steps; none_later = λ q i. inl (f.none_later q i); has = has }
   where
-    has : count ≤ limit → (i j : ℕ) → (i < k) ⊎ ((i ≡ k) × (j < s)) → j < first → caller xs j ≡ (edge_of xs i).callee → Goes_on (rows xs count) (edge_of xs i) (edge_of xs j) i (row_at xs j).step
+    has : count ≤ limit → (i j : ℕ) → (i < k) ⊎ ((i ≡ k) × (j < s)) → j < first → caller xs j ≡ (edge_of xs i).callee → GoesOn (rows xs count) (edge_of xs i) (edge_of xs j) i (row_at xs j).step
     has le i j (inl l) lj e = f.has le i j l lj e
     has le i j (inr (p, l)) lj e = absurd (x.before j (omega arith) l (e ∙ ap (λ (m : ℕ). (edge_of xs m).callee) p))
 
@@ -54,7 +54,7 @@ following_all ts first k s limit xs count f few most over = record { grown = f.g
     none_later : (q : Row) → In q (rows xs count) → q.from ≤ k + 1
     none_later q i = elim (f.none_later q i) [ inl l ↦ omega arith | inr h ↦ omega (arith, h.0) ]
 
-    has : count ≤ limit → (i j : ℕ) → i < k + 1 → j < first → caller xs j ≡ (edge_of xs i).callee → Goes_on (rows xs count) (edge_of xs i) (edge_of xs j) i (row_at xs j).step
+    has : count ≤ limit → (i j : ℕ) → i < k + 1 → j < first → caller xs j ≡ (edge_of xs i).callee → GoesOn (rows xs count) (edge_of xs i) (edge_of xs j) i (row_at xs j).step
     has le i j li lj e = f.has le i j (elim (cases_eq i k) [ inl z ↦ inr (z, omega (arith, over le)) | inr z ↦ inl (omega arith) ]) lj e
 
 -- step s is taken: `row` is way k and then step s
@@ -91,13 +91,13 @@ following_more ts first k s s' limit xs ys count r row f lk few fits ls meets go
       | inr p ↦ inr (ap (λ (z : Row). z.from) p ∙ from ∙ add-one k, λ j a b. omega (arith, ap (λ (z : Row). z.step) p, step, ordered j (omega (arith, next.least)) b, step_kept j b))
     ]
 
-    wider : {x y : Edge} {i n : ℕ} → Goes_on (rows xs count) x y i n → Goes_on (rows ys r) x y i n
+    wider : {x y : Edge} {i n : ℕ} → GoesOn (rows xs count) x y i n → GoesOn (rows ys r) x y i n
     wider (q, is, t, u) = (q, added_in row added is, t, u)
 
-    shift : (i j : ℕ) → i < count → j < first → Goes_on (rows ys r) (edge_of xs i) (edge_of xs j) i (row_at xs j).step → Goes_on (rows ys r) (edge_of ys i) (edge_of ys j) i (row_at ys j).step
+    shift : (i j : ℕ) → i < count → j < first → GoesOn (rows ys r) (edge_of xs i) (edge_of xs j) i (row_at xs j).step → GoesOn (rows ys r) (edge_of ys i) (edge_of ys j) i (row_at ys j).step
     shift i j li lj = goes_kept xs ys count (rows ys r) kept i j li (omega arith)
 
-    new : Goes_on (rows ys r) (edge_of xs k) (edge_of xs s) k (row_at xs s).step
+    new : GoesOn (rows ys r) (edge_of xs k) (edge_of xs s) k (row_at xs s).step
     new =
         let (q, i, e, w) = added_has row added in (
           q,
@@ -112,12 +112,12 @@ following_more ts first k s s' limit xs ys count r row f lk few fits ls meets go
     back : (i j : ℕ) → i < count → j < first → caller ys j ≡ (edge_of ys i).callee → caller xs j ≡ (edge_of xs i).callee
     back i j li lj = meets_kept xs ys count kept i j li (omega arith)
 
-    has : (i j : ℕ) → (i < k) ⊎ ((i ≡ k) × (j < s')) → j < first → caller ys j ≡ (edge_of ys i).callee → Goes_on (rows ys r) (edge_of ys i) (edge_of ys j) i (row_at ys j).step
+    has : (i j : ℕ) → (i < k) ⊎ ((i ≡ k) × (j < s')) → j < first → caller ys j ≡ (edge_of ys i).callee → GoesOn (rows ys r) (edge_of ys i) (edge_of ys j) i (row_at ys j).step
     has i j (inl l) lj e = let li : i < count = omega arith in shift i j li lj (wider (f.has fits i j (inl l) lj (back i j li lj e)))
     has i j (inr (p, l)) lj e = let li : i < count = omega arith in at (cases_order j s) li (back i j li lj e)
       where
-        at : (j ≡ s) ⊎ ((j < s) ⊎ (s < j)) → i < count → caller xs j ≡ (edge_of xs i).callee → Goes_on (rows ys r) (edge_of ys i) (edge_of ys j) i (row_at ys j).step
-        at (inl z) li m = shift i j li lj (subst₂ (λ (a b : ℕ). Goes_on (rows ys r) (edge_of xs a) (edge_of xs b) a (row_at xs b).step) (sym p) (sym z) new)
+        at : (j ≡ s) ⊎ ((j < s) ⊎ (s < j)) → i < count → caller xs j ≡ (edge_of xs i).callee → GoesOn (rows ys r) (edge_of ys i) (edge_of ys j) i (row_at ys j).step
+        at (inl z) li m = shift i j li lj (subst₂ (λ (a b : ℕ). GoesOn (rows ys r) (edge_of xs a) (edge_of xs b) a (row_at xs b).step) (sym p) (sym z) new)
         at (inr (inl z)) li m = shift i j li lj (wider (f.has fits i j (inr (p, z)) lj m))
         at (inr (inr z)) li m = absurd (next.before j (omega arith) l (m ∙ ap (λ (a : ℕ). (edge_of xs a).callee) p ∙ sym meets))
 

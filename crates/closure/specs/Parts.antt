@@ -4,7 +4,7 @@ use Rattle.std.proofs.Math.Option.{some}
 use Rattle.sizechange.specs.Graph.{In, nth}
 use Rattle.table.specs.declared.Row.{Row}
 use Rattle.table.specs.Rows.{edge_of, points, row_at, rows, width}
-use Rattle.closure.specs.Ways.{Upto, Grown, Goes_on}
+use Rattle.closure.specs.Ways.{Upto, Grown, GoesOn}
 
 -- room for one way more than allowed, by which too many are seen
 pub record Room (limit words : ℕ) : Type 0 where
@@ -41,7 +41,7 @@ pub record Followed (ts : List Row) (first k limit : ℕ) (xs : List ℕ) (count
   pub few : first ≤ count
   pub are_steps : (j : ℕ) → j < first → (row_at xs j).from ≡ 0
   pub none_later : (q : Row) → In q (rows xs count) → q.from ≤ k
-  pub has : count ≤ limit → (i j : ℕ) → i < k → j < first → caller xs j ≡ (edge_of xs i).callee → Goes_on (rows xs count) (edge_of xs i) (edge_of xs j) i (row_at xs j).step
+  pub has : count ≤ limit → (i j : ℕ) → i < k → j < first → caller xs j ≡ (edge_of xs i).callee → GoesOn (rows xs count) (edge_of xs i) (edge_of xs j) i (row_at xs j).step
 
 -- the first n rows are as they were
 abbrev pub Kept : List ℕ → ℕ → List ℕ → Type 0

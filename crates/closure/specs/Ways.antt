@@ -31,13 +31,13 @@ pub data Grown (ts : List Row) : List Row → Type 0 where
   grow : {vs : List Row} (r : Row) → Grown ts vs → Made ts vs r → (Has vs r.edge → ⊥) → ((q : Row) → In q vs → Before q r) → Grown ts (vs ++ r ∷ [])
 
 -- edge x, which way k has, and then edge y, which step i has, is in the table, and came no later than by these two
-abbrev pub Goes_on : List Row → Edge → Edge → ℕ → ℕ → Type 0
-Goes_on vs x y k i = (r : Row) × In r vs × Then x y r.edge × Upto (suc k) i r
+abbrev pub GoesOn : List Row → Edge → Edge → ℕ → ℕ → Type 0
+GoesOn vs x y k i = (r : Row) × In r vs × Then x y r.edge × Upto (suc k) i r
 
 -- a table that has each step, and with each way that way and then each step that begins where it ends
 pub record Complete (ts vs : List Row) : Type 0 where
   pub steps : (i : ℕ) (t : Row) → nth ts i ≡ some t → (r : Row) × In r vs × (r.edge ≡ t.edge) × Upto 0 i r
-  pub ways : (k i : ℕ) (w t : Row) → nth vs k ≡ some w → nth ts i ≡ some t → t.edge.caller ≡ w.edge.callee → Goes_on vs w.edge t.edge k i
+  pub ways : (k i : ℕ) (w t : Row) → nth vs k ≡ some w → nth ts i ≡ some t → t.edge.caller ≡ w.edge.callee → GoesOn vs w.edge t.edge k i
 
 -- an edge stands for what leads from f to g by arcs
 pub record Stands (e : Edge) (f g : ℕ) (as₁ : List Arc) : Type 0 where
