@@ -101,7 +101,10 @@ def main():
         for name in aliases | (set() if is_made(p, root) else local(text)):
             defined.setdefault(name, set())
     for p in other:
-        library |= foreign(read(p), own)[0]
+        taken, aliases = foreign(read(p), own)
+        library |= taken
+        for name in aliases:
+            defined.setdefault(name, set())
     turn = {n: spelled(n) for n in defined if spelled(n) != n and n not in library and n not in made}
     # a lemma that would have its function's name
     turn = {n: t + "_lem" if t in library else t for n, t in turn.items()}

@@ -3,7 +3,7 @@ ghost use Rattle.callgraph.specs.Standing.{ReadsAt, StandAll, StandingAll, Stand
 ghost use Rattle.graphs.specs.Words.{Words};
 ghost use Rattle.lang.specs.Program.{Expr, Exprs, Prog, max_args};
 ghost use Rattle.lang.specs.Reads.{Reads};
-ghost use Rattle.lang.specs.Steps.{arcs, origin as origin-in};
+ghost use Rattle.lang.specs.Steps.{arcs, origin as origin_in};
 ghost use Rattle.origins.specs.Origins.{from_of, in_view};
 ghost use Rattle.reading.specs.Ends.{EndsFrom};
 ghost use Rattle.reading.specs.Heads.{HeadAt};
@@ -40,7 +40,7 @@ pub fn end_of(bytes: &[u8], ends: &[u32], at: usize) -> usize
 pub fn origin_of(bytes: &[u8], known: &[u32], vars: u32, at: usize) -> Origin
     requires stands { Stands bytes.now vars at }
     requires within { vars ≤ length known.now }
-    ensures { (e : Expr) (x : List ℕ) → Reads (drop at bytes.now) e x → from_of result.0 ≡ origin-in (in_view known.now vars) e }
+    ensures { (e : Expr) (x : List ℕ) → Reads (drop at bytes.now) e x → from_of result.0 ≡ origin_in (in_view known.now vars) e }
 {
     match head_of(bytes, at) {
         Head::Var(i) => origin_at(known, vars, i as u32),
