@@ -1,10 +1,11 @@
 -- Reading trees from the last byte to the first: what holds at byte i, and one byte more.
-use Rattle.std.proofs.Common.{◌≡◌, ℕ, suc, ◌+◌, ◌-◌, ◌*◌, ◌<◌, ◌≤◌, ◌≢◌, List, ◌∷◌, ◌++◌, length, get_or, drop, set, sym, ap, ◌∙◌, subst, ap₂, ⊎_elim, arith, get_or-set_other, get_or-set_same, below_more}
+use Rattle.std.proofs.Common.{◌≡◌, ℕ, suc, ◌+◌, ◌-◌, ◌*◌, ◌<◌, ◌≤◌, ◌≢◌, List, ◌∷◌, ◌++◌, length, get_or, drop, set, reverse, sym, ap, ◌∙◌, subst, ap₂, ⊎_elim, arith, get_or-set_other, get_or-set_same, below_more}
 use Rattle.std.proofs.lemmas.Bool.{cases_eq}
-use Rattle.std.proofs.lemmas.List.{drop_more, drop_all}
+use Rattle.std.proofs.lemmas.List.{drop_more, drop_all, length-reverse, get_or-reverse}
+use Rattle.std.proofs.lemmas.Grind.{get_or_default_zero}
 use Rattle.lang.specs.Bytes.{bytes_of_tree, bytes_of_trees}
 use Rattle.arena.specs.Nodes.{tree, Sound, Grown, env, forest}
-use Rattle.arena.specs.Forests.{Read, NoTrees}
+use Rattle.arena.specs.Forests.{NoTrees}
 use Rattle.arena.proofs.Trees.{leaf_zero, put, put_behind, put_grown, put_tree}
 use Rattle.arena.proofs.Stacks.{length_env, env_grown, env_more}
 use Rattle.arena.proofs.Forests.{one_forest, node_bytes, no_such_byte, no_parts}
@@ -20,6 +21,13 @@ pub record Sofar (bytes : List ℕ) (i : ℕ) (ws : List ℕ) (used : ℕ) (st :
 
 byte_before : (bytes : List ℕ) (i : ℕ) → 0 < i → i ≤ length bytes → drop (i - 1) bytes ≡ get_or bytes (i - 1) 0 ∷ drop i bytes
 byte_before bytes i h le = let e : i - 1 + 1 ≡ i = omega arith in drop_more bytes (i - 1) 0 (omega arith) ∙ ap (λ j. get_or bytes (i - 1) 0 ∷ drop j bytes) e
+
+-- byte k from the end, as the loop yields it
+pub yielded_byte : (bytes : List ℕ) (k b : ℕ) → (k < length (reverse bytes)) × (b ≡ get_or (reverse bytes) k b) → (k < length bytes) × (get_or bytes (length bytes - k - 1) 0 ≡ b)
+yielded_byte bytes k b h =
+    let l : k < length bytes = omega (arith, length-reverse {A = ℕ}) in
+    let e : length bytes - 1 - k ≡ length bytes - k - 1 = omega arith in
+    (l, sym (h.1 ∙ get_or-reverse bytes k b l ∙ ap (λ i. get_or bytes i b) e ∙ get_or_default_zero bytes (length bytes - k - 1) b (omega arith)))
 
 -- nothing read: the words may be anything
 pub nothing : (bytes ws st : List ℕ) → Sofar bytes (length bytes) ws 0 st 0 0
@@ -105,6 +113,3 @@ module _ (bytes : List ℕ) (i : ℕ) (ws : List ℕ) (used : ℕ) (st : List �
 
   pub other_number : (height ≡ wanted → ⊥) → NoTrees bytes wanted
   other_number other ts n e = other (sym (length_env ws st height) ∙ ap length (one_forest (env ws st height) ts (whole ∙ sym e)) ∙ n)
-
-  pub all_read : height ≡ wanted → Read bytes wanted ws used st
-  all_read is = record { sound = s.sound; few = omega (arith, s.few); fits = omega (arith, s.low); there = λ j h. s.there j (omega arith); trees = ap (λ n. bytes_of_trees (env ws st n)) (sym is) ∙ whole }

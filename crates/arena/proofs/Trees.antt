@@ -55,17 +55,6 @@ alike ws ws' used s same (suc d) (suc k) h =
     (ap (tree_within ws' d) (same (2 * k) (omega arith)) ∙ alike ws ws' used s same d (get_or ws (2 * k) 0) (omega arith))
     (ap (tree_within ws' d) (same (2 * k + 1) (omega arith)) ∙ alike ws ws' used s same d (get_or ws (2 * k + 1) 0) (omega arith))
 
-pub grown_none : (ws : List ℕ) (used : ℕ) → Sound ws used → Grown ws used ws used
-grown_none ws used s = record { long = refl; more = omega arith; sound = s; kept = λ n h. refl }
-
-pub grown_trans : (ws : List ℕ) (used : ℕ) (vs : List ℕ) (more : ℕ) (us : List ℕ) (most : ℕ) → Grown ws used vs more → Grown vs more us most → Grown ws used us most
-grown_trans ws used vs more us most g h = record {
-  long = h.long ∙ g.long;
-  more = omega (arith, g.more, h.more);
-  sound = h.sound;
-  kept = λ n le. h.kept n (omega (arith, g.more)) ∙ g.kept n le;
-}
-
 -- two words behind the nodes that are used
 module _ (ws : List ℕ) (used l r : ℕ) where
   abbrev pub put : List ℕ

@@ -1,10 +1,9 @@
 -- A walk along the bytes of trees: one step.
-use Rattle.std.proofs.Common.{◌≡◌, ℕ, zero, suc, ◌+◌, ◌-◌, ◌*◌, ◌<◌, ◌≤◌, List, [], ◌∷◌, ◌++◌, length, get_or, set, sym, ap, ◌∙◌, subst, ap₂, ⊎_elim, append-nil, arith, length-set, get_or-set_other, get_or-set_same}
-use Rattle.std.proofs.lemmas.Bool.{cases_eq}
+use Rattle.std.proofs.Common.{◌≡◌, ℕ, zero, suc, ◌+◌, ◌-◌, ◌<◌, ◌≤◌, List, [], ◌∷◌, ◌++◌, length, get_or, set, sym, ap, ◌∙◌, ap₂, append-nil, arith}
 use Rattle.lang.specs.Bytes.{bytes_of_tree, bytes_of_trees}
-use Rattle.arena.specs.Nodes.{tree, Sound, env, forest}
+use Rattle.arena.specs.Nodes.{tree, Sound, Parts, env, forest}
 use Rattle.arena.specs.Walks.{Walking}
-use Rattle.arena.proofs.Trees.{leaf_zero, tree_parts, sound_below}
+use Rattle.arena.proofs.Trees.{leaf_zero}
 use Rattle.arena.proofs.Stacks.{env_more}
 use Rattle.arena.proofs.Forests.{node_bytes}
 
@@ -25,73 +24,39 @@ pub more_left : (ws st : List ℕ) (n height : ℕ) → 0 < length (bytes_of_tre
 more_left ws st n zero h = absurd (omega (arith, ap length (none_left ws st n 0 (omega arith))))
 more_left ws st n (suc k) h = omega arith
 
--- the byte b is taken, and the walk goes on from there
-abbrev pub Stepped : List ℕ → List ℕ → ℕ → ℕ → ℕ → List ℕ → ℕ → ℕ → Type 0
-Stepped ws st top height b st' top' height' = record { walking : Walking ws st' top' height'; byte : bytes_of_trees (forest ws st top height) ≡ b ∷ bytes_of_trees (forest ws st' top' height') }
-
+-- what is to come is the byte that is taken, and what is to come from where the walk goes on
 module _ (ws st : List ℕ) (top height : ℕ) (w : Walking ws st top height) where
   -- past a leaf, to the next tree
-  pub leaf_step : top ≡ 0 → 0 < height - 1 → Stepped ws st top height 0 st (get_or st (height - 1 - 1) 0) (height - 1)
+  pub leaf_step : top ≡ 0 → 0 < height - 1 → bytes_of_trees (forest ws st top height) ≡ 0 ∷ bytes_of_trees (forest ws st (get_or st (height - 1 - 1) 0) (height - 1))
   unfolding forest env
   leaf_step is more =
       let m = height - 1 - 1 in
       let e : height ≡ suc (suc m) = omega arith in
       let f : suc m ≡ height - 1 = omega arith in
-      record {
-        walking = record {
-          next = w.others m (omega arith);
-          others = λ j h. w.others j (omega arith);
-          room = omega (arith, w.rooms m (omega arith));
-          rooms = λ j h. w.rooms j (omega arith);
-        };
-        byte = ap₂ (λ n h. bytes_of_trees (forest ws st n h)) is e
-            ∙ ap (λ t. bytes_of_tree t ++ bytes_of_trees (env ws st (suc m))) (leaf_zero ws)
-            ∙ ap (λ h. 0 ∷ bytes_of_trees (forest ws st (get_or st m 0) h)) f;
-      }
+      ap₂ (λ n h. bytes_of_trees (forest ws st n h)) is e
+      ∙ ap (λ t. bytes_of_tree t ++ bytes_of_trees (env ws st (suc m))) (leaf_zero ws)
+      ∙ ap (λ h. 0 ∷ bytes_of_trees (forest ws st (get_or st m 0) h)) f
 
   -- past the last leaf
-  pub last_step : top ≡ 0 → 0 < height → height - 1 ≤ 0 → Stepped ws st top height 0 st top (height - 1)
+  pub last_step : top ≡ 0 → 0 < height → height - 1 ≤ 0 → bytes_of_trees (forest ws st top height) ≡ 0 ∷ bytes_of_trees (forest ws st top (height - 1))
   unfolding forest env
   last_step is some last =
       let e : height ≡ 1 = omega arith in
-      record {
-        walking = record { next = w.next; others = λ j h. w.others j (omega arith); room = omega (arith, w.room); rooms = λ j h. w.rooms j (omega arith) };
-        byte = ap₂ (λ n h. bytes_of_trees (forest ws st n h)) is e
-            ∙ ap (λ t. bytes_of_tree t ++ []) (leaf_zero ws)
-            ∙ ap (λ x. 0 ∷ x) (sym (none_left ws st top (height - 1) last));
-      }
+      ap₂ (λ n h. bytes_of_trees (forest ws st n h)) is e
+      ∙ ap (λ t. bytes_of_tree t ++ []) (leaf_zero ws)
+      ∙ ap (λ x. 0 ∷ x) (sym (none_left ws st top (height - 1) last))
 
   -- into a node
-  pub node_step : (top ≡ 0 → ⊥) → 0 < height → Stepped ws st top height 1 (set st (height - 1) (get_or ws (2 * (top - 1) + 1) 0)) (get_or ws (2 * (top - 1)) 0) (height + 1)
+  pub node_step : (l r : ℕ) → Parts ws top l r → 0 < height → bytes_of_trees (forest ws st top height) ≡ 1 ∷ bytes_of_trees (forest ws (set st (height - 1) r) l (height + 1))
   unfolding forest env
-  node_step is some =
-      let l = get_or ws (2 * (top - 1)) 0 in
-      let r = get_or ws (2 * (top - 1) + 1) 0 in
+  node_step l r p some =
       let m = height - 1 in
       let e : height ≡ suc m = omega arith in
       let f : suc (suc m) ≡ height + 1 = omega arith in
       let st' = set st m r in
-      let p = tree_parts ws top w.next top (omega arith) (omega arith) in
-      let fits : m < length st = omega (arith, w.room) in
-      let here : get_or st' m 0 ≡ r = get_or-set_same st m r 0 fits in
-      let there : (j : ℕ) → (j ≡ m → ⊥) → get_or st' j 0 ≡ get_or st j 0 = λ j other. get_or-set_other st m j r 0 other in
-      let long : length st' ≡ length st = length-set st m r in
-      record {
-        walking = record {
-          next = sound_below ws top l w.next (omega (arith, p.left));
-          others = λ j h. ⊎_elim
-              (λ same. subst (Sound ws) (sym (ap (λ i. get_or st' i 0) same ∙ here)) (sound_below ws top r w.next (omega (arith, p.right))))
-              (λ other. subst (Sound ws) (sym (there j other)) (w.others j (omega arith)))
-              (cases_eq j m);
-          room = omega (arith, w.room, p.left);
-          rooms = λ j h. ⊎_elim
-              (λ same. omega (arith, w.room, p.right, ap (λ i. get_or st' i 0) same))
-              (λ other. omega (arith, there j other, w.rooms j (omega arith)))
-              (cases_eq j m);
-        };
-        byte = ap (λ h. bytes_of_trees (forest ws st top h)) e
-            ∙ ap (λ t. bytes_of_tree t ++ bytes_of_trees (env ws st m)) p.whole
-            ∙ node_bytes (tree ws l) (tree ws r) (bytes_of_trees (env ws st m))
-            ∙ ap (λ ts. 1 ∷ (bytes_of_tree (tree ws l) ++ bytes_of_trees ts)) (sym (env_more ws st m r fits))
-            ∙ ap (λ h. 1 ∷ bytes_of_trees (forest ws st' l h)) f;
-      }
+      let fits : m < length st = omega (arith, w.room, p.left) in
+      ap (λ h. bytes_of_trees (forest ws st top h)) e
+      ∙ ap (λ t. bytes_of_tree t ++ bytes_of_trees (env ws st m)) p.whole
+      ∙ node_bytes (tree ws l) (tree ws r) (bytes_of_trees (env ws st m))
+      ∙ ap (λ ts. 1 ∷ (bytes_of_tree (tree ws l) ++ bytes_of_trees ts)) (sym (env_more ws st m r fits))
+      ∙ ap (λ h. 1 ∷ bytes_of_trees (forest ws st' l h)) f

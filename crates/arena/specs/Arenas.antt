@@ -1,15 +1,11 @@
 -- An arena: nodes in lent words, of which some are used, and a limit to how many are.
 use Rattle.std.specs.Prelude.{◌≡◌, ℕ, ◌+◌, ◌<◌, List}
 use Rattle.lang.specs.Program.{node}
-use Rattle.arena.specs.Nodes.{tree, Grown, Well as WellNodes}
+use Rattle.arena.specs.Nodes.{tree, Grown}
 use Rattle.arena.specs.declared.nodes.Arena.{Arena}
 
 abbrev pub words : Arena → List ℕ
 words a = a.nodes.now
-
--- there are words and numbers for as many nodes as the limit says
-abbrev pub Well : Arena → Type 0
-Well a = WellNodes (words a) a.used a.limit
 
 -- no node was made: all the room is used, and nothing has changed
 pub record Full (a a' : Arena) : Type 0 where

@@ -1,12 +1,12 @@
 ghost use Rattle.std.specs.Prelude.{◌≡◌, ◌<◌, ◌≤◌, ◌∷◌, length, MatchOption};
 ghost use Rattle.lang.specs.Bytes.{bytes_of_tree};
-ghost use Rattle.arena.specs.Nodes.{tree, Sound};
+ghost use Rattle.arena.specs.Roots.{rooted};
 ghost use Rattle.arena.specs.Forests.{Written, Unwritten};
 ghost use Rattle.arena.specs.Walks.{Walks, to_come};
 
-use crate::nodes::NodeId;
+use crate::nodes::{LEAF, NodeId, Tree};
 
-// A walk along the bytes of trees: the number of the next tree, and of how many trees the bytes are still to come; the numbers of the others are on the stack.
+// A walk along the bytes of trees: the number of the next tree, and of how many trees the bytes are still to come; the numbers of the others are on the stack, which is lent since there is no heap.
 #[derive(Drop)]
 struct Walk<'a> {
     nodes: &'a [u32],
@@ -23,16 +23,20 @@ impl Walk<'_> {
         ensures walking { Walks self.new }
         ensures byte { to_come self.old ≡ result ∷ to_come self.new }
     {
-        if self.top.0 == 0 {
+        if self.top == LEAF {
             self.height -= 1;
             if self.height > 0 {
                 self.top = NodeId(self.stack[self.height - 1]);
             }
             0
         } else {
-            let at = 2 * (self.top.0 as usize - 1);
-            self.stack[self.height - 1] = self.nodes[at + 1];
-            self.top = NodeId(self.nodes[at]);
+            let (left, right) = Tree {
+                nodes: self.nodes,
+                root: self.top,
+            }
+            .parts(self.top);
+            self.stack[self.height - 1] = right.0;
+            self.top = left;
             self.height += 1;
             1
         }
@@ -48,18 +52,17 @@ fn first(a: u32, b: u32) -> u32
 }
 
 // How many bytes a tree has, unless there are more than `most`: then no more steps are taken. A tree has two bytes for each node and one more, so only nodes are looked at. What comes next is selected, since a branch on a tree's shape can't be foreseen.
-fn count(nodes: &[u32], root: NodeId, stack: &mut [u32], most: usize) -> Option<usize>
-    requires sound { Sound nodes.now root.0 }
-    requires stack { root.0 ≤ length stack.old }
-    ensures { MatchOption result (most < length (bytes_of_tree (tree nodes.now root.0))) (λ k. (k ≡ length (bytes_of_tree (tree nodes.now root.0))) × (k ≤ most)) }
+fn count(tree: Tree<'_>, stack: &mut [u32], most: usize) -> Option<usize>
+    requires { tree.root.0 ≤ length stack.old }
+    ensures { MatchOption result (most < length (bytes_of_tree (rooted tree.entry))) (λ k. (k ≡ length (bytes_of_tree (rooted tree.entry))) × (k ≤ most)) }
 {
     if most == 0 {
         return None;
     }
-    if root.0 == 0 {
+    if tree.root == LEAF {
         return Some(1);
     }
-    let mut top = root.0;
+    let mut top = tree.root.0;
     let mut height = 1;
     // the newest number on the stack, if there is one; read a turn ahead, since the compiler makes a branch of a select from memory
     let mut below = 0;
@@ -68,9 +71,7 @@ fn count(nodes: &[u32], root: NodeId, stack: &mut [u32], most: usize) -> Option<
         if most - k < 2 {
             return None;
         }
-        let at = 2 * (top as usize - 1);
-        let left = nodes[at];
-        let right = nodes[at + 1];
+        let (NodeId(left), NodeId(right)) = tree.parts(NodeId(top));
         stack[height - 1] = right;
         top = first(left, first(right, below));
         height = height + left.min(1) as usize + right.min(1) as usize - 1;
@@ -81,20 +82,20 @@ fn count(nodes: &[u32], root: NodeId, stack: &mut [u32], most: usize) -> Option<
 }
 
 // Writes the bytes of a tree at the beginning of `out`, if they fit, and says how many they are.
-pub fn write_tree(nodes: &[u32], root: NodeId, stack: &mut [u32], out: &mut [u8]) -> Option<usize>
-    requires sound { Sound nodes.now root.0 }
-    requires stack { root.0 ≤ length stack.old }
-    ensures { MatchOption result (Unwritten (tree nodes.now root.0) out.old out.new) (λ k. Written (tree nodes.now root.0) out.old out.new k) }
+// That the stack is long enough is a clause, since it ties two arguments.
+pub fn write_tree(tree: Tree<'_>, stack: &mut [u32], out: &mut [u8]) -> Option<usize>
+    requires { tree.root.0 ≤ length stack.old }
+    ensures { MatchOption result (Unwritten (rooted tree.entry) out.old out.new) (λ k. Written (rooted tree.entry) out.old out.new k) }
 {
-    let size = count(nodes, root, stack, out.len())?;
+    let size = count(tree, stack, out.len())?;
     let mut walk = Walk {
-        nodes,
+        nodes: tree.nodes,
         stack,
-        top: root,
+        top: tree.root,
         height: 1,
     };
-    for i in 0..size {
-        out[i] = walk.step();
+    for byte in &mut out[..size] {
+        *byte = walk.step();
     }
     Some(size)
 }

@@ -2,9 +2,8 @@
 #![tactic(auto)]
 
 ghost use Rattle.std.specs.Prelude.{◌≡◌, ◌≤◌, length, take, IfSome};
-ghost use Rattle.arena.specs.Arenas.{Well};
 
-use arena::nodes::{Arena, NodeId};
+use arena::nodes::{Arena, LEAF, NodeId, Tree};
 use arena::reading::read_trees;
 use arena::writing::write_tree;
 
@@ -26,17 +25,14 @@ pub fn copy_tree(
         return None;
     }
     let root = NodeId(stack[0]);
-    let k = write_tree(nodes, root, stack, out)?;
-    Some(k)
+    write_tree(Tree { nodes, root }, stack, out)
 }
 
 // A node of a tree twice, of that twice, and so on while there is room: as deep as there are nodes, and twice as large for each.
 pub fn double(arena: &mut Arena) -> NodeId
-    requires { Well arena.old }
-    ensures well { Well arena.new }
-    ensures there { result.0 ≤ arena.new.used }
+    ensures { result.0 ≤ arena.new.used }
 {
-    let mut n = NodeId(0);
+    let mut n = LEAF;
     while let Some(m) = arena.make(n, n) {
         n = m;
     }
@@ -79,13 +75,8 @@ mod tests {
     #[test]
     fn deep_to_the_left(rt: HostRuntime) -> Result<(), Fail> {
         let heap = rt.alloc();
-        let mut bytes = Vec::new(heap);
-        for _ in 0..100_000u32 {
-            bytes.push(1)?;
-        }
-        for _ in 0..100_001u32 {
-            bytes.push(0)?;
-        }
+        let mut bytes = vec![in heap; 1u8; 100_000]?;
+        bytes.resize(200_001, 0)?;
         goes_through(&rt, heap, &bytes)
     }
 
@@ -94,8 +85,7 @@ mod tests {
         let heap = rt.alloc();
         let mut bytes = Vec::new(heap);
         for _ in 0..100_000u32 {
-            bytes.push(1)?;
-            bytes.push(0)?;
+            bytes.extend_from_slice(&[1, 0])?;
         }
         bytes.push(0)?;
         goes_through(&rt, heap, &bytes)
@@ -107,15 +97,16 @@ mod tests {
         let mut words = [0u32; 120];
         let mut stack = [0u32; 60];
         let mut out = [7u8; 1000];
+        let nodes = &mut words[..];
         let mut arena = Arena {
-            nodes: &mut words,
+            nodes,
             used: 0,
             limit: 60,
         };
         let n = double(&mut arena);
         assert_eq!(rt; n.0, 60);
         assert!(rt; arena.used <= 60);
-        assert_eq!(rt; write_tree(arena.nodes, n, &mut stack, &mut out), None);
+        assert_eq!(rt; arena.write(n, &mut stack, &mut out), None);
         assert_eq!(rt; out[0], 7);
     }
 

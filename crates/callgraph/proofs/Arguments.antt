@@ -4,12 +4,11 @@ use mathlib.Core.Option.{Option}
 use Rattle.sizechange.specs.Graph.{Arc}
 use Rattle.graphs.specs.declared.Graph.{Graph}
 use Rattle.graphs.specs.Words.{Words}
-use Rattle.origins.specs.Origins.{from_of}
 use Rattle.lang.specs.Program.{Expr, Exprs, nil, cons, Prog, count}
 use Rattle.lang.specs.Reads.{Reads}
 use Rattle.lang.specs.Steps.{From, origin, arc, arcs}
 use Rattle.lang.proofs.Reading.{reads_all_bytes}
-use Rattle.reading.specs.Ends.{EndsFrom}
+use Rattle.reading.specs.Saying.{SaysEnds}
 use Rattle.callgraph.specs.Standing.{StandingAll, hop}
 use Rattle.callgraph.proofs.Standing.{first_of_all}
 
@@ -38,7 +37,7 @@ pub record Argument (ks : List (Option From)) (s ends : List ℕ) (vars at i : �
 arcs_push : (ks : List (Option From)) (j i : ℕ) (e : Expr) (es : Exprs) (d : Expr) → arcs ks (j + 1) (firsts (suc i) es) ≡ arcs ks (j + 1) (firsts i es) ++ arc ((j + 1) + i) (origin ks d) → arc j (origin ks e) ++ arcs ks (j + 1) (firsts (suc i) es) ≡ (arc j (origin ks e) ++ arcs ks (j + 1) (firsts i es)) ++ arc (j + suc i) (origin ks d)
 arcs_push ks j i e es d h = let q : (j + 1) + i ≡ j + suc i = omega arith in rw (append_assoc, h, q)
 
-pub argument_at : (ks : List (Option From)) (p : Prog) (s ends : List ℕ) → EndsFrom s ends 0 → (vars at n : ℕ) (es : Exprs) (k i : ℕ) → StandingAll p s vars at (i + suc n) es k → Argument ks s ends vars at i es
+pub argument_at : (ks : List (Option From)) (p : Prog) (s ends : List ℕ) → SaysEnds s ends → (vars at n : ℕ) (es : Exprs) (k i : ℕ) → StandingAll p s vars at (i + suc n) es k → Argument ks s ends vars at i es
 argument_at ks p s ends t vars at n es k zero h =
     let e : 0 + suc n ≡ suc n = omega arith in
     let f = first_of_all p s ends t vars at n es k (subst (λ (m : ℕ). StandingAll p s vars at m es k) e h) in
@@ -60,10 +59,10 @@ argument_at ks p s ends t vars at n es k (suc i) h =
     }
 
 -- one argument more in the graph
-pub words_more : (ks : List (Option From)) (p : Prog) (s ends : List ℕ) → EndsFrom s ends 0 → (vars at n : ℕ) (es : Exprs) (k i start : ℕ) → i < n → start ≡ hop ends at i → (w : ℕ) → ((e : Expr) (x : List ℕ) → Reads (drop start s) e x → from_of w ≡ origin ks e) → (g r : Graph) → ((as₁ : List Arc) → Words g as₁ → Words r (as₁ ++ arc i (from_of w))) → StandingAll p s vars at n es k → Words g (arcs ks 0 (firsts i es)) → Words r (arcs ks 0 (firsts (i + 1) es))
+pub words_more : (ks : List (Option From)) (p : Prog) (s ends : List ℕ) → SaysEnds s ends → (vars at n : ℕ) (es : Exprs) (k i start : ℕ) → i < n → start ≡ hop ends at i → (w : Option From) → ((e : Expr) (x : List ℕ) → Reads (drop start s) e x → w ≡ origin ks e) → (g r : Graph) → ((as₁ : List Arc) → Words g as₁ → Words r (as₁ ++ arc i w)) → StandingAll p s vars at n es k → Words g (arcs ks 0 (firsts i es)) → Words r (arcs ks 0 (firsts (i + 1) es))
 words_more ks p s ends t vars at n es k i start l a w o g r f h q =
     let e : n ≡ i + suc (n - (i + 1)) = omega arith in
     let b = argument_at ks p s ends t vars at (n - (i + 1)) es k i (subst (λ (m : ℕ). StandingAll p s vars at m es k) e h) in
     let z = o b.argument b.rest (subst (λ (m : ℕ). Reads (drop m s) b.argument b.rest) (sym a) b.reads) in
-    let c : arcs ks 0 (firsts i es) ++ arc i (from_of w) ≡ arcs ks 0 (firsts (i + 1) es) = ap₂ (λ (m : ℕ) (v : Option From). arcs ks 0 (firsts i es) ++ arc m v) (sym (zero-add i)) z ∙ (sym (b.arcs_more 0) ∙ ap (λ (m : ℕ). arcs ks 0 (firsts m es)) (sym (add-one i))) in
+    let c : arcs ks 0 (firsts i es) ++ arc i w ≡ arcs ks 0 (firsts (i + 1) es) = ap₂ (λ (m : ℕ) (v : Option From). arcs ks 0 (firsts i es) ++ arc m v) (sym (zero-add i)) z ∙ (sym (b.arcs_more 0) ∙ ap (λ (m : ℕ). arcs ks 0 (firsts m es)) (sym (add-one i))) in
     subst (λ (as₁ : List Arc). Words r as₁) c (f (arcs ks 0 (firsts i es)) q)

@@ -8,7 +8,7 @@ use Rattle.lang.proofs.Fine.{fine_call_graph}
 use Rattle.lang.proofs.Reading.{fine_parts}
 use Rattle.lang.proofs.Well.{well_program}
 use Rattle.graphs.specs.Words.{places}
-use Rattle.table.specs.Rows.{points}
+use Rattle.table.specs.Ends.{points}
 
 pub fine_program : (s : List ℕ) (p : Prog) → Program s p → Fine points places (call_graph p)
 fine_program s p h t i =

@@ -8,7 +8,7 @@ use Rattle.lang.specs.Bytes.{Program, all_ok}
 use Rattle.lang.specs.Reads.{Reads}
 use Rattle.lang.specs.Steps.{From, steps, given, all_steps, call_graph}
 use Rattle.lang.proofs.Reading.{body_ok, fine_parts}
-use Rattle.reading.specs.Ends.{EndsFrom}
+use Rattle.reading.specs.Saying.{SaysEnds}
 use Rattle.reading.specs.Functions.{Functions, f_none, f_more}
 use Rattle.reading.proofs.Finding.{first_function, program_functions}
 use Rattle.origins.specs.Origins.{in_view}
@@ -50,7 +50,7 @@ pub record Function (p : Prog) (s ends : List ℕ) (at : ℕ) (fs : List Fun) : 
   pub there : Functions (drop (get_or ends (at + 1) 0) s) others
   pub well : T (all_ok p others)
 
-pub function_at : (p : Prog) (s ends : List ℕ) → EndsFrom s ends 0 → (at : ℕ) (fs : List Fun) → at < length s → Functions (drop at s) fs → T (all_ok p fs) → Function p s ends at fs
+pub function_at : (p : Prog) (s ends : List ℕ) → SaysEnds s ends → (at : ℕ) (fs : List Fun) → at < length s → Functions (drop at s) fs → T (all_ok p fs) → Function p s ends at fs
 function_at p s ends t at fs l h o =
     let q = first_function (subst (λ (xs : List ℕ). Functions xs fs) (drop_more s at 0 l) h) in
     let w = body_ok p (record { args = get_or s at 0; body = q.1 }) q.3 (subst (λ (gs : List Fun). T (all_ok p gs)) q.6 o) in
@@ -66,13 +66,13 @@ function_at p s ends t at fs l h o =
     }
 
 -- its body waits
-pub body_waits : (p : Prog) (s ends views known : List ℕ) (f at : ℕ) (fs : List Fun) → (x : Function p s ends at fs) → (args : ℕ) → args ≡ get_or s at 0 → Noted views (at + 1) args 0 0 → in_view known args ≡ given 0 args → Pending p s views known f (get_or ends (at + 1) 0) args (at + 1) (steps f (given 0 (get_or s at 0)) x.body ++ [])
+pub body_waits : (p : Prog) (s ends views known : List ℕ) (f at : ℕ) (fs : List Fun) → (x : Function p s ends at fs) → (args : ℕ) → args ≡ get_or s at 0 → Noted views (at + 1) args 0 opt.none → in_view known args ≡ given 0 args → Pending p s views known f (get_or ends (at + 1) 0) args (at + 1) (steps f (given 0 (get_or s at 0)) x.body ++ [])
 body_waits p s ends views known f at fs x args e n g =
     let l = x.few in
     let a : get_or s at 0 ≡ args + 0 = omega arith in
     let z : in_view known args ≡ given 0 (get_or s at 0) = g ∙ ap (λ (k : ℕ). given 0 k) e in
     subst (λ (ks : List (opt.Option From)). Pending p s views known f (get_or ends (at + 1) 0) args (at + 1) (steps f ks x.body ++ [])) z
-    (pending_more p s views known f (get_or ends (at + 1) 0) args (at + 1) x.body (get_or ends (at + 1) 0) [] args 0 0 n (subst (λ (v : ℕ). Standing p s v (at + 1) x.body (get_or ends (at + 1) 0)) a x.stands) (omega arith) (omega arith) (omega arith) p_none)
+    (pending_more p s views known f (get_or ends (at + 1) 0) args (at + 1) x.body (get_or ends (at + 1) 0) [] args 0 opt.none n (subst (λ (v : ℕ). Standing p s v (at + 1) x.body (get_or ends (at + 1) 0)) a x.stands) (omega arith) (omega arith) (omega arith) p_none)
 
 -- what is known of the place of a turn
 pub record At (s ends : List ℕ) (at f : ℕ) : Type 0 where
@@ -82,7 +82,7 @@ pub record At (s ends : List ℕ) (at f : ℕ) : Type 0 where
   pub function : Function program s ends at functions
   pub below : f < 64
 
-pub listing_at : {s rows : List ℕ} {at f m : ℕ} (ends : List ℕ) → EndsFrom s ends 0 → Listing s rows at f m → at < length s → (p : Prog) × Program s p → At s ends at f
+pub listing_at : {s rows : List ℕ} {at f m : ℕ} (ends : List ℕ) → SaysEnds s ends → Listing s rows at f m → at < length s → (p : Prog) × Program s p → At s ends at f
 listing_at {s} {rows} {at} {f} {m} ends t h l q =
     let x = h.listed q.0 q.1 in
     let y = function_at q.0 s ends t at x.others l x.there x.well in
@@ -91,7 +91,7 @@ listing_at {s} {rows} {at} {f} {m} ends t h l q =
     let c = (fine_parts s q.0 q.1).1 in
     record { program = q.0; size = c; functions = x.others; function = y; below = omega arith }
 
-pub listing_turn : {s rows : List ℕ} {at f m : ℕ} (ends : List ℕ) → EndsFrom s ends 0 → Listing s rows at f m → at < length s → (views known rows₁ : List ℕ) (args m₁ : ℕ) → args ≡ get_or s at 0 → Noted views (at + 1) args 0 0 → in_view known args ≡ given 0 args → 3 * m₁ ≤ get_or ends (at + 1) 0 → get_or ends (at + 1) 0 ≤ length s → ((p : Prog) (b : ℕ) (ss done : List Step) → Pending p s views known f (get_or ends (at + 1) 0) b (at + 1) ss → StepRows rows done m → StepRows rows₁ (done ++ ss) m₁) → Listing s rows₁ (get_or ends (at + 1) 0) (f + 1) m₁
+pub listing_turn : {s rows : List ℕ} {at f m : ℕ} (ends : List ℕ) → SaysEnds s ends → Listing s rows at f m → at < length s → (views known rows₁ : List ℕ) (args m₁ : ℕ) → args ≡ get_or s at 0 → Noted views (at + 1) args 0 opt.none → in_view known args ≡ given 0 args → 3 * m₁ ≤ get_or ends (at + 1) 0 → get_or ends (at + 1) 0 ≤ length s → ((p : Prog) (b : ℕ) (ss done : List Step) → Pending p s views known f (get_or ends (at + 1) 0) b (at + 1) ss → StepRows rows done m → StepRows rows₁ (done ++ ss) m₁) → Listing s rows₁ (get_or ends (at + 1) 0) (f + 1) m₁
 listing_turn {s} {rows} {at} {f} {m} ends t h l views known rows₁ args m₁ e n g few within visit = record { few = few; within = within; listed = listed }
   where
     listed : (p : Prog) → Program s p → Listed p s rows₁ (get_or ends (at + 1) 0) (f + 1) m₁
@@ -126,5 +126,9 @@ listing_done {s} {rows} {at} {f} {m} h l p q =
 pub at_reads : {s ends : List ℕ} {at f : ℕ} → At s ends at f → ReadsAt s (at + 1)
 at_reads {s} {ends} {at} x = record { expression = x.function.body; rest = drop (get_or ends (at + 1) 0) s; reads = x.function.stands.reads }
 
-pub at_walk : {s ends : List ℕ} {at f : ℕ} (x : At s ends at f) → (views known : List ℕ) (args : ℕ) → args ≡ get_or s at 0 → Noted views (at + 1) args 0 0 → in_view known args ≡ given 0 args → Walk s views known f (get_or ends (at + 1) 0) (at + 1)
+pub at_walk : {s ends : List ℕ} {at f : ℕ} (x : At s ends at f) → (views known : List ℕ) (args : ℕ) → args ≡ get_or s at 0 → Noted views (at + 1) args 0 opt.none → in_view known args ≡ given 0 args → Walk s views known f (get_or ends (at + 1) 0) (at + 1)
 at_walk {s} {ends} {at} {f} x views known args e n g = record { program = x.program; few = x.size; reads = at_reads x; bound = args; their_steps = _; waiting = body_waits x.program s ends views known f at x.functions x.function args e n g }
+
+-- the rows as they were lent
+pub same_rows : (xs ys : List ℕ) (ss : List Step) (m : ℕ) → ys ≡ xs → StepRows xs ss m → StepRows ys ss m
+same_rows xs ys ss m e h = subst (λ (zs : List ℕ). StepRows zs ss m) (sym e) h

@@ -1,17 +1,13 @@
 -- From an expression at a place to its parts.
-use Rattle.std.proofs.Common.{◌≡◌, ℕ, zero, suc, ◌+◌, ◌-◌, ◌<◌, ◌≤◌, T, List, length, get_or, drop, Some, sym, refl, ap, ◌∙◌, subst, add-one, arith, ltb→lt}
-use mathlib.Core.Option.{Option, none}
+use Rattle.std.proofs.Common.{◌≡◌, ℕ, zero, suc, ◌+◌, ◌-◌, ◌<◌, ◌≤◌, T, List, length, get_or, drop, Some, sym, refl, ap, ◌∙◌, subst, add-one, arith}
 use Rattle.lang.specs.Program.{Expr, var, Exprs, cons, Prog}
 use Rattle.lang.specs.Bytes.{ok, oks}
 use Rattle.lang.specs.Reads.{Reads, ReadsAll, r_cons}
-use Rattle.lang.specs.Steps.{From, origin}
 use Rattle.lang.proofs.Lists.{both}
-use Rattle.lang.proofs.Reading.{reads_one}
-use Rattle.reading.specs.declared.head.Head.{Head}
 use Rattle.reading.specs.declared.head.Head.TheVariants.{Var}
 use Rattle.reading.specs.Heads.{HeadAt}
-use Rattle.reading.specs.Ends.{EndsFrom, EndWord}
-use Rattle.reading.proofs.Heading.{Goes, g_var, g_leaf, g_node, g_parts, g_bind, g_call, goes_at, starting}
+use Rattle.reading.specs.Saying.{SaysEnd, SaysEnds}
+use Rattle.reading.proofs.Heading.{Goes, g_var, goes_at, starting}
 use Rattle.callgraph.specs.Standing.{ReadsAt, Standing, StandingAll, Stands, StandAll, hop}
 
 -- a variable that stands at a place is in view
@@ -21,33 +17,18 @@ goes_var g_var = refl
 pub var_at : (s : List ℕ) (at i : ℕ) {e : Expr} {x : List ℕ} → HeadAt s at (Some (Var i)) → Reads (drop at s) e x → e ≡ var i
 var_at s at i a r = goes_var (goes_at s at (Var i) a r)
 
-pub var_seen : (s : List ℕ) (vars at i : ℕ) → Stands s vars at → HeadAt s at (Some (Var i)) → i < vars
-var_seen s vars at i h a = ltb→lt i vars (subst (λ (e : Expr). T (ok h.program vars e)) (var_at s at i a h.there.reads) h.there.well)
-
--- what is no variable has no origin
-no_origin : (ks : List (Option From)) {h : Head} {xs zs : List ℕ} {e : Expr} → ((i : ℕ) → h ≡ Var i → ⊥) → Goes h xs e zs → none ≡ origin ks e
-no_origin ks n (g_var {i = i}) = absurd (n i refl)
-no_origin ks n g_leaf = refl
-no_origin ks n (g_node q) = refl
-no_origin ks n (g_parts q) = refl
-no_origin ks n (g_bind q) = refl
-no_origin ks n (g_call l q) = refl
-
-pub origin_none : (ks : List (Option From)) (s : List ℕ) (at : ℕ) (h : Head) {e : Expr} {x : List ℕ} → ((i : ℕ) → h ≡ Var i → ⊥) → HeadAt s at (Some h) → Reads (drop at s) e x → none ≡ origin ks e
-origin_none ks s at h n a r = no_origin ks n (goes_at s at h a r)
-
 -- an expression ends where the table says
 pub record Ended (s : List ℕ) (at w : ℕ) (x : List ℕ) : Type 0 where
   pub forward : at < w
   pub within : w ≤ length s
   pub rest : x ≡ drop w s
 
-pub ended : (s ends : List ℕ) → EndsFrom s ends 0 → (at : ℕ) {e : Expr} {x : List ℕ} → Reads (drop at s) e x → Ended s at (get_or ends at 0) x
-ended s ends t at {e} {x} r = go (get_or ends at 0) (t at (omega arith) (omega (arith, (starting s at r).one)))
+pub ended : (s ends : List ℕ) → SaysEnds s ends → (at : ℕ) {e : Expr} {x : List ℕ} → Reads (drop at s) e x → Ended s at (get_or ends at 0) x
+ended s ends t at {e} {x} r = go (get_or ends at 0) (t at (omega (arith, (starting s at r).one)))
   where
-    go : (w : ℕ) → EndWord s at w → Ended s at w x
+    go : (w : ℕ) → SaysEnd s at w → Ended s at w x
     go zero h = absurd (h.none refl e x r)
-    go (suc w) h = let q = h.some (omega arith) in record { forward = q.1; within = q.0; rest = (reads_one r q.3).1 }
+    go (suc w) h = record { forward = h.forward (omega arith); within = h.within; rest = h.rest e x r }
 
 -- the first of several expressions, and the others
 pub record First (p : Prog) (s : List ℕ) (vars at n : ℕ) (es : Exprs) (k w : ℕ) : Type 0 where
@@ -57,7 +38,7 @@ pub record First (p : Prog) (s : List ℕ) (vars at n : ℕ) (es : Exprs) (k w :
   pub stands : Standing p s vars at first w
   pub stand : StandingAll p s vars w n others k
 
-first_read : (p : Prog) (s ends : List ℕ) → EndsFrom s ends 0 → (vars at k : ℕ) {n : ℕ} {xs : List ℕ} {es : Exprs} → xs ≡ drop at s → k ≤ length s → T (oks p vars es) → ReadsAll (suc n) xs es (drop k s) → First p s vars at n es k (get_or ends at 0)
+first_read : (p : Prog) (s ends : List ℕ) → SaysEnds s ends → (vars at k : ℕ) {n : ℕ} {xs : List ℕ} {es : Exprs} → xs ≡ drop at s → k ≤ length s → T (oks p vars es) → ReadsAll (suc n) xs es (drop k s) → First p s vars at n es k (get_or ends at 0)
 first_read p s ends t vars at k b l o (r_cons {k = n} {ys = ys} {e = e} {es = es} h r) =
     let oo = both (ok p vars e) (oks p vars es) o in
     let h2 = subst (λ (xs : List ℕ). Reads xs e ys) b h in
@@ -70,7 +51,7 @@ first_read p s ends t vars at k b l o (r_cons {k = n} {ys = ys} {e = e} {es = es
       stand = record { reads = subst (λ (x : List ℕ). ReadsAll n x es (drop k s)) q.rest r; within = l; well = oo.1 };
     }
 
-pub first_of_all : (p : Prog) (s ends : List ℕ) → EndsFrom s ends 0 → (vars at n : ℕ) (es : Exprs) (k : ℕ) → StandingAll p s vars at (suc n) es k → First p s vars at n es k (get_or ends at 0)
+pub first_of_all : (p : Prog) (s ends : List ℕ) → SaysEnds s ends → (vars at n : ℕ) (es : Exprs) (k : ℕ) → StandingAll p s vars at (suc n) es k → First p s vars at n es k (get_or ends at 0)
 first_of_all p s ends t vars at n es k h = first_read p s ends t vars at k refl h.within h.well h.reads
 
 -- one hop further
@@ -82,7 +63,7 @@ pub hop_on : (ends : List ℕ) (at i start : ℕ) → start ≡ hop ends at i �
 hop_on ends at i start e = ap (λ (k : ℕ). get_or ends k 0) e ∙ (sym (hop_more ends at i) ∙ ap (λ (k : ℕ). hop ends at k) (sym (add-one i)))
 
 -- of n expressions from a place on, those after the first i
-pub stand_after : (s ends : List ℕ) → EndsFrom s ends 0 → (vars at n i : ℕ) → StandAll s vars at (i + n) → StandAll s vars (hop ends at i) n
+pub stand_after : (s ends : List ℕ) → SaysEnds s ends → (vars at n i : ℕ) → StandAll s vars at (i + n) → StandAll s vars (hop ends at i) n
 stand_after s ends t vars at n zero h = let e : 0 + n ≡ n = omega arith in subst (λ (m : ℕ). StandAll s vars at m) e h
 stand_after s ends t vars at n (suc i) h =
     let e : suc i + n ≡ suc (i + n) = omega arith in
@@ -91,14 +72,14 @@ stand_after s ends t vars at n (suc i) h =
     stand_after s ends t vars (get_or ends at 0) n i (record { program = r.program; few = r.few; expressions = f.others; end = r.end; there = f.stand })
 
 -- so one stands at hop i
-stands_at : (s ends : List ℕ) → EndsFrom s ends 0 → (vars at n i : ℕ) → i < n → StandAll s vars at n → Stands s vars (hop ends at i)
+stands_at : (s ends : List ℕ) → SaysEnds s ends → (vars at n i : ℕ) → i < n → StandAll s vars at n → Stands s vars (hop ends at i)
 stands_at s ends t vars at n i l h =
     let e : n ≡ i + suc (n - (i + 1)) = omega arith in
     let r = stand_after s ends t vars at (suc (n - (i + 1))) i (subst (λ (m : ℕ). StandAll s vars at m) e h) in
     let f = first_of_all r.program s ends t vars (hop ends at i) (n - (i + 1)) r.expressions r.end r.there in
     record { program = r.program; few = r.few; expression = f.first; end = get_or ends (hop ends at i) 0; there = f.stands }
 
-pub stands_next : (s ends : List ℕ) → EndsFrom s ends 0 → (vars at n i start : ℕ) → start ≡ hop ends at i → i < n → StandAll s vars at n → Stands s vars start
+pub stands_next : (s ends : List ℕ) → SaysEnds s ends → (vars at n i start : ℕ) → start ≡ hop ends at i → i < n → StandAll s vars at n → Stands s vars start
 stands_next s ends t vars at n i start e l h = subst (λ (k : ℕ). Stands s vars k) (sym e) (stands_at s ends t vars at n i l h)
 
 pub stands_read : (s : List ℕ) (vars at : ℕ) → Stands s vars at → ReadsAt s at
@@ -108,7 +89,7 @@ stands_read s vars at h = record { expression = h.expression; rest = drop h.end 
 pub reads_below : (s : List ℕ) (at : ℕ) → ReadsAt s at → at < length s
 reads_below s at h = omega (arith, (starting s at h.reads).one)
 
-pub reads_end : (s ends : List ℕ) → EndsFrom s ends 0 → (at : ℕ) → (h : ReadsAt s at) → Ended s at (get_or ends at 0) h.rest
+pub reads_end : (s ends : List ℕ) → SaysEnds s ends → (at : ℕ) → (h : ReadsAt s at) → Ended s at (get_or ends at 0) h.rest
 reads_end s ends t at h = ended s ends t at h.reads
 
 pub stands_below : (s : List ℕ) (vars at : ℕ) → Stands s vars at → at < length s

@@ -14,12 +14,13 @@ use Rattle.reading.proofs.Heading.{Goes, g_var, g_leaf, g_node, g_parts, g_bind,
 use Rattle.graphs.specs.declared.Graph.{Graph}
 use Rattle.graphs.specs.Words.{Words}
 use Rattle.table.specs.declared.Edge.{Edge}
-use Rattle.table.specs.declared.Row.{Row}
-use Rattle.table.specs.Rows.{SameRow, row_at, rows as list}
-use Rattle.table.proofs.Rows.{length_rows, nth_push, rows_nth}
+use Rattle.table.specs.declared.row.Row.{Row}
+use Rattle.table.specs.Ends.{Ends}
+use Rattle.table.specs.Rows.{SameRow, row_at}
+use Rattle.table.proofs.Rows.{nth_push}
 use Rattle.callgraph.specs.Standing.{Standing, StandingAll, Stands}
 use Rattle.callgraph.specs.Pending.{own}
-use Rattle.callgraph.specs.StepRows.{IsStep, StepRow, StepRows, OneStep}
+use Rattle.callgraph.specs.StepRows.{StepRow, StepRows, OneStep}
 use Rattle.callgraph.proofs.Parting.{call_all}
 
 rows_push : (rows rows₁ : List ℕ) (done : List Step) (s : Step) (m : ℕ) → StepRows rows done m → ((j : ℕ) → (j ≡ m → ⊥) → SameRow rows rows₁ j) → StepRow (row_at rows₁ m) m s → StepRows rows₁ (done ++ s ∷ []) (m + 1)
@@ -31,8 +32,8 @@ rows_push rows rows₁ done s m h o q = record {
       (nth_push done s i e);
 }
 
-pub rows_one : (rows rows₁ : List ℕ) (m : ℕ) (e : Edge) → row_at rows₁ m ≡ record { edge = e; from = 0; step = m } → ((j : ℕ) → (j ≡ m → ⊥) → SameRow rows rows₁ j) → (done ss : List Step) → StepRows rows done m → OneStep ss (Some e) → StepRows rows₁ (done ++ ss) (m + 1)
-rows_one rows rows₁ m e r o done ss h q =
+pub rows_one : (rows rows₁ : List ℕ) (m : ℕ) (e : Edge) (ends : Ends e) → row_at rows₁ m ≡ record { edge = e; from = 0; step = m; ends = ends } → ((j : ℕ) → (j ≡ m → ⊥) → SameRow rows rows₁ j) → (done ss : List Step) → StepRows rows done m → OneStep ss (Some e) → StepRows rows₁ (done ++ ss) (m + 1)
+rows_one rows rows₁ m e ends r o done ss h q =
     subst (λ (ts : List Step). StepRows rows₁ (done ++ ts) (m + 1)) (sym q.1) (rows_push rows rows₁ done q.0 m h o (subst (λ (w : Row). StepRow w m q.0) (sym r) (record { step = q.2; from_none = refl; number_is = refl })))
 
 pub rows_same : (rows : List ℕ) (m : ℕ) (done ss : List Step) → StepRows rows done m → ss ≡ [] → StepRows rows (done ++ ss) m
@@ -68,7 +69,3 @@ no_own f ks n (g_call {f = g} {n = m} l q) = absurd (n g m refl)
 
 pub no_step : (ks : List (opt.Option From)) (p : Prog) (s : List ℕ) (vars at f : ℕ) (h : Head) → HeadAt s at (Some h) → ((g n : ℕ) → h ≡ Call g n → ⊥) → (e : Expr) (k : ℕ) → Standing p s vars at e k → own f ks e ≡ []
 no_step ks p s vars at f h a n e k q = no_own f ks n (goes_at s at h a q.reads)
-
--- the rows as a list, step by step
-pub rows_steps : (xs : List ℕ) (ss : List Step) (m : ℕ) → StepRows xs ss m → (length (list xs m) ≡ length ss) × ((i : ℕ) (r : Row) (s : Step) → nth (list xs m) i ≡ opt.some r → nth ss i ≡ opt.some s → IsStep r.edge s)
-rows_steps xs ss m h = (length_rows xs m ∙ sym h.number, λ i r s e q. subst (λ (w : Row). IsStep w.edge s) (rows_nth xs m i e).1 (h.each i s q).step)

@@ -4,7 +4,7 @@ use mathlib.Core.Option.{Option}
 use Rattle.sizechange.specs.Graph.{Step}
 use Rattle.lang.specs.Program.{Expr, var, a_leaf, a_node, parts, bind, call, Prog}
 use Rattle.lang.specs.Steps.{From, steps}
-use Rattle.origins.specs.Origins.{from_of, in_view}
+use Rattle.origins.specs.Origins.{in_view}
 use Rattle.origins.specs.Views.{outer_at, new_at, Noted, SameNote, newer, seen}
 use Rattle.origins.proofs.Origins.{view_same}
 use Rattle.callgraph.specs.Standing.{Standing}
@@ -65,13 +65,13 @@ pending_next p s views known f end l p_none = absurd (omega arith)
 pending_next p s views known f end l (p_more {k = k} {e = e} {ss = ss} x r) = record { expression = e; after = k; later = ss; waits = x; rest = r; are = refl }
 
 -- one more waits before the others
-pub pending_more : (p : Prog) (s views known : List ℕ) (f end b at : ℕ) (e : Expr) (k : ℕ) (ss : List Step) (o n w : ℕ) → Noted views at o n w → Standing p s (o + n) at e k → o ≤ b → n ≤ 2 → o + n ≤ 8 + at → Pending p s views known f end o k ss → Pending p s views known f end b at (steps f (newer n (from_of w) (in_view known o)) e ++ ss)
+pub pending_more : (p : Prog) (s views known : List ℕ) (f end b at : ℕ) (e : Expr) (k : ℕ) (ss : List Step) (o n : ℕ) (w : Option From) → Noted views at o n w → Standing p s (o + n) at e k → o ≤ b → n ≤ 2 → o + n ≤ 8 + at → Pending p s views known f end o k ss → Pending p s views known f end b at (steps f (newer n w (in_view known o)) e ++ ss)
 pending_more p s views known f end b at e k ss o n w h x l m r q =
     let a = h.outer_is in
     let c = h.new_is in
-    let d = h.word_is in
+    let d = h.origin_is in
     let v : o + n ≡ outer_at views at + new_at views at = omega arith in
-    let z : seen known views at ≡ newer n (from_of w) (in_view known o) = cc in
+    let z : seen known views at ≡ newer n w (in_view known o) = cc in
     subst (λ (ks : List (Option From)). Pending p s views known f end b at (steps f ks e ++ ss)) z
     (p_more (record { stands = subst (λ (y : ℕ). Standing p s y at e k) v x; around = omega arith; few = omega arith; room = omega arith }) (subst (λ (y : ℕ). Pending p s views known f end y k ss) (sym a) q))
 

@@ -1,15 +1,19 @@
 -- One turn of the walk over a body.
-use Rattle.std.proofs.Common.{◌≡◌, ℕ, ◌+◌, ◌*◌, ◌<◌, ◌≤◌, List, [], ◌++◌, length, get_or, Option, sym, refl, ap, ◌∙◌, subst, append_assoc, append-nil, arith}
+use Rattle.std.proofs.Common.{◌≡◌, ℕ, ◌+◌, ◌*◌, ◌<◌, ◌≤◌, List, ◌++◌, length, get_or, take, Option, sym, refl, ap, ◌∙◌, subst, append_assoc, append-nil, arith}
 use mathlib.Core.Option as opt
+use Rattle.std.proofs.lemmas.List.{length-take-le, get_or-take}
 use Rattle.sizechange.specs.Graph.{Step}
 use Rattle.table.specs.declared.Edge.{Edge}
 use Rattle.lang.specs.Program.{Expr, Prog}
 use Rattle.lang.specs.Steps.{From, steps}
-use Rattle.origins.specs.Origins.{from_of, in_view}
+use Rattle.origins.specs.Origins.{in_view}
+use Rattle.origins.proofs.Origins.{view_same}
 use Rattle.origins.specs.Views.{outer_at, new_at, Noted, newer, seen}
 use Rattle.callgraph.specs.Standing.{ReadsAt, Standing, Stands}
 use Rattle.callgraph.specs.Pending.{own, inner, Pending, PartsWait, Walk}
+use Rattle.callgraph.specs.declared.steps.StepTable.{StepTable}
 use Rattle.callgraph.specs.StepRows.{OneStep, StepRows}
+use Rattle.callgraph.specs.StepTables.{IsSameMemory}
 use Rattle.callgraph.proofs.Waiting.{pending_next, pending_done, pending_before, pending_same, pending_under, own_inner}
 
 -- some of the steps are in the rows, and the expressions of the others wait
@@ -26,9 +30,6 @@ pub record Walking (s views₀ known₀ rows₀ : List ℕ) (f end at₀ m₀ : 
   pub few : 3 * m ≤ at
   pub going : (p : Prog) (b : ℕ) (ss : List Step) → Pending p s views₀ known₀ f end b at₀ ss → Going p s rows₀ m₀ views known rows f end at m ss
 
-pub walking_none : (s views known rows : List ℕ) (f end at m : ℕ) → 3 * m ≤ at → Walking s views known rows f end at m views known rows at m
-walking_none s views known rows f end at m l = record { few = l; going = λ p b ss h. record { bound = b; past = []; rest = ss; waiting = h; whole = refl; written = λ done q. rw append-nil q } }
-
 pub going_done : (p : Prog) (s rows₀ : List ℕ) (m₀ : ℕ) (views known rows : List ℕ) (f end at m : ℕ) (ss : List Step) → Going p s rows₀ m₀ views known rows f end at m ss → end ≤ at → (done : List Step) → StepRows rows₀ done m₀ → StepRows rows (done ++ ss) m
 going_done p s rows₀ m₀ views known rows f end at m ss g l done h =
     let e = pending_done p s views known f end l g.waiting in
@@ -39,20 +40,20 @@ pub going_before : (p : Prog) (s rows₀ : List ℕ) (m₀ : ℕ) (views known r
 going_before p s rows₀ m₀ views known rows f end at m ss g = pending_before p s views known f end g.waiting
 
 -- how the variables that an expression sees came into view
-pub record Opened (views : List ℕ) (at : ℕ) (known known₁ : List ℕ) (vars o n w : ℕ) : Type 0 where
+pub record Opened (views : List ℕ) (at : ℕ) (known known₁ : List ℕ) (vars o n : ℕ) (w : opt.Option From) : Type 0 where
   pub noted : Noted views at o n w
   pub number : vars ≡ o + n
-  pub opened : in_view known₁ vars ≡ newer n (from_of w) (in_view known o)
+  pub opened : in_view known₁ vars ≡ newer n w (in_view known o)
   pub kept : (j : ℕ) → j < o → get_or known₁ j 0 ≡ get_or known j 0
 
-pub going_turn : (p : Prog) (s rows₀ : List ℕ) (m₀ : ℕ) (views known rows : List ℕ) (f end at m : ℕ) (ss : List Step) → Going p s rows₀ m₀ views known rows f end at m ss → at < end → (known₁ views₁ rows₁ : List ℕ) (vars o n w m₁ inside : ℕ) (step : Option Edge) → Opened views at known known₁ vars o n w → ((q : Prog) (e : Expr) (k : ℕ) → Standing q s vars at e k → OneStep (own f (in_view known₁ vars) e) step) → ((done ts : List Step) → StepRows rows done m → OneStep ts step → StepRows rows₁ (done ++ ts) m₁) → PartsWait s vars at inside known₁ views views₁ → Going p s rows₀ m₀ views₁ known₁ rows₁ f end inside m₁ ss
+pub going_turn : (p : Prog) (s rows₀ : List ℕ) (m₀ : ℕ) (views known rows : List ℕ) (f end at m : ℕ) (ss : List Step) → Going p s rows₀ m₀ views known rows f end at m ss → at < end → (known₁ views₁ rows₁ : List ℕ) (vars o n : ℕ) (w : opt.Option From) (m₁ inside : ℕ) (step : Option Edge) → Opened views at known known₁ vars o n w → ((q : Prog) (e : Expr) (k : ℕ) → Standing q s vars at e k → OneStep (own f (in_view known₁ vars) e) step) → ((done ts : List Step) → StepRows rows done m → OneStep ts step → StepRows rows₁ (done ++ ts) m₁) → PartsWait s vars at inside known₁ views views₁ → Going p s rows₀ m₀ views₁ known₁ rows₁ f end inside m₁ ss
 going_turn p s rows₀ m₀ views known rows f end at m ss g l known₁ views₁ rows₁ vars o n w m₁ inside step q one push parts =
     let x = pending_next p s views known f end l g.waiting in
     let e = x.expression in
     let k = x.after in
     let a = q.noted.outer_is in
     let b = q.noted.new_is in
-    let c = q.noted.word_is in
+    let c = q.noted.origin_is in
     let d = q.number in
     let u = q.opened in
     let v : outer_at views at + new_at views at ≡ vars = omega arith in
@@ -94,5 +95,42 @@ here {s} {views₀} {known₀} {rows₀} {f} {end} {at₀} {m₀} {views} {known
       below = omega arith;
     }
 
-pub walking_turn : {s views₀ known₀ rows₀ : List ℕ} {f end at₀ m₀ : ℕ} {views known rows : List ℕ} {at m : ℕ} → Walking s views₀ known₀ rows₀ f end at₀ m₀ views known rows at m → at < end → (known₁ views₁ rows₁ : List ℕ) (vars o n w m₁ inside : ℕ) (step : Option Edge) → Opened views at known known₁ vars o n w → ((q : Prog) (e : Expr) (k : ℕ) → Standing q s vars at e k → OneStep (own f (in_view known₁ vars) e) step) → ((done ts : List Step) → StepRows rows done m → OneStep ts step → StepRows rows₁ (done ++ ts) m₁) → PartsWait s vars at inside known₁ views views₁ → 3 * m₁ ≤ inside → Walking s views₀ known₀ rows₀ f end at₀ m₀ views₁ known₁ rows₁ inside m₁
+pub walking_turn : {s views₀ known₀ rows₀ : List ℕ} {f end at₀ m₀ : ℕ} {views known rows : List ℕ} {at m : ℕ} → Walking s views₀ known₀ rows₀ f end at₀ m₀ views known rows at m → at < end → (known₁ views₁ rows₁ : List ℕ) (vars o n : ℕ) (w : opt.Option From) (m₁ inside : ℕ) (step : Option Edge) → Opened views at known known₁ vars o n w → ((q : Prog) (e : Expr) (k : ℕ) → Standing q s vars at e k → OneStep (own f (in_view known₁ vars) e) step) → ((done ts : List Step) → StepRows rows done m → OneStep ts step → StepRows rows₁ (done ++ ts) m₁) → PartsWait s vars at inside known₁ views views₁ → 3 * m₁ ≤ inside → Walking s views₀ known₀ rows₀ f end at₀ m₀ views₁ known₁ rows₁ inside m₁
 walking_turn {s} {views₀} {known₀} {rows₀} {f} {end} {at₀} {m₀} {views} {known} {rows} {at} {m} h l known₁ views₁ rows₁ vars o n w m₁ inside step q one push parts few = record { few = few; going = λ p b ss x. going_turn p s rows₀ m₀ views known rows f end at m ss (h.going p b ss x) l known₁ views₁ rows₁ vars o n w m₁ inside step q one push parts }
+
+-- the variables in view as a slice of the words
+pub view_take : (known : List ℕ) (vars : ℕ) → vars ≤ length known → in_view (take vars known) (length (take vars known)) ≡ in_view known vars
+view_take known vars h = ap (λ (n : ℕ). in_view (take vars known) n) (length-take-le vars known h) ∙ view_same known (take vars known) vars (λ j m. get_or-take vars known j 0 m)
+
+pub parts_take : (s known views views₁ : List ℕ) (vars at inside : ℕ) → vars ≤ length known → PartsWait s (length (take vars known)) at inside (take vars known) views views₁ → PartsWait s vars at inside known views views₁
+parts_take s known views views₁ vars at inside m h p f end e k ss st r =
+    let l : length (take vars known) ≡ vars = length-take-le vars known m in
+    let st₁ = subst (λ (v : ℕ). Standing p s v at e k) (sym l) st in
+    let r₁ = subst (λ (b : ℕ). Pending p s views (take vars known) f end b k ss) (sym l) (pending_same p s views views known (take vars known) f end (λ j q. record { outer_is = refl; new_is = refl; word_is = refl }) (λ i q. get_or-take vars known i 0 q) r) in
+    let q = subst (λ (b : ℕ). Pending p s views₁ (take vars known) f end b inside (inner f (in_view (take vars known) (length (take vars known))) e ++ ss)) l (h p f end e k ss st₁ r₁) in
+    subst (λ (ks : List (opt.Option From)). Pending p s views₁ known f end vars inside (inner f ks e ++ ss)) (view_take known vars m)
+    (pending_same p s views₁ views₁ (take vars known) known f end (λ j z. record { outer_is = refl; new_is = refl; word_is = refl }) (λ i z. sym (get_or-take vars known i 0 z)) q)
+
+-- so the slice of those in view is known at the place of a turn
+pub record Sees (s : List ℕ) (at vars : ℕ) (known : List ℕ) : Type 0 where
+  pub within : vars ≤ length known
+  pub few : vars ≤ 8 + at
+  pub all : length (take vars known) ≡ vars
+  pub stands : Stands s (length (take vars known)) at
+
+pub sees : {s views : List ℕ} {at : ℕ} → Here s views at → (known : List ℕ) (vars o n : ℕ) (w : opt.Option From) → Noted views at o n w → vars ≡ o + n → 8 + length s + 2 ≤ length known → Sees s at vars known
+sees {s} {views} {at} h known vars o n w q e m =
+    let a = h.room in
+    let b = h.below in
+    let c = q.outer_is in
+    let d = q.new_is in
+    let i : vars ≤ length known = omega arith in
+    let l : length (take vars known) ≡ vars = length-take-le vars known i in
+    let k : outer_at views at + new_at views at ≡ length (take vars known) = omega arith in
+    record { within = i; few = omega arith; all = l; stands = subst (λ (v : ℕ). Stands s v at) k h.stands }
+
+pub same_memory : (t : StepTable) → IsSameMemory t t
+same_memory t = record { rows = refl; words = refl }
+
+pub memory_then : {t u v : StepTable} → IsSameMemory t u → IsSameMemory u v → IsSameMemory t v
+memory_then h k = record { rows = k.rows ∙ h.rows; words = k.words ∙ h.words }

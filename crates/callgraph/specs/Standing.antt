@@ -3,13 +3,10 @@ use Rattle.std.specs.Prelude.{ℕ, zero, suc, ◌+◌, ◌*◌, ◌<◌, ◌≤�
 use Rattle.lang.specs.Program.{Expr, Exprs, Prog, max_args, max_bytes, max_functions}
 use Rattle.lang.specs.Bytes.{ok, oks}
 use Rattle.lang.specs.Reads.{Reads, ReadsAll}
-use Rattle.reading.specs.Ends.{EndsFrom}
 
--- the table of ends is right, and there are words for the variables in view and for the notes
-pub record Room (s ends : List ℕ) (known views : ℕ) : Type 0 where
-  pub ending : EndsFrom s ends 0
+-- the script is not too long, and there are words for the variables in view and for the notes
+pub record Room (s : List ℕ) (known views : ℕ) : Type 0 where
   pub few : length s ≤ max_bytes
-  pub table : length s ≤ length ends
   pub words : max_args + length s + 2 ≤ known
   pub notes : 2 * length s ≤ views
 

@@ -4,8 +4,9 @@ use Rattle.std.proofs.Math.Option as opt
 use Rattle.sizechange.specs.Graph.{Step, nth}
 use Rattle.graphs.specs.Words.{Words}
 use Rattle.table.specs.declared.Edge.{Edge}
-use Rattle.table.specs.declared.Row.{Row}
-use Rattle.table.specs.Rows.{Ends, row_at}
+use Rattle.table.specs.declared.row.Row.{Row}
+use Rattle.table.specs.Ends.{Ends}
+use Rattle.table.specs.Rows.{row_at}
 
 -- the edge is the step
 pub record IsStep (e : Edge) (s : Step) : Type 0 where

@@ -1,67 +1,98 @@
-ghost use Rattle.std.specs.Prelude.{◌≡◌, ℕ, ◌+◌, ◌*◌, ◌^◌, ◌<◌, ◌≤◌, List, ◌++◌, length, Some};
+ghost use Rattle.std.specs.Prelude.{◌≡◌, ℕ, ◌+◌, ◌*◌, ◌^◌, ◌<◌, ◌≤◌, List, ◌++◌, length, drop, Some};
 ghost use Rattle.callgraph.specs.Pending.{own};
-ghost use Rattle.callgraph.specs.Standing.{Standing, Stands};
+ghost use Rattle.callgraph.specs.Standing.{StandAll, Standing, StandingAll, Stands};
 ghost use Rattle.callgraph.specs.StepRows.{EndsOf, OneStep, StepRows, number};
-ghost use Rattle.lang.specs.Program.{Expr, Prog};
-ghost use Rattle.origins.specs.Origins.{in_view};
-ghost use Rattle.reading.specs.Ends.{EndsFrom};
+ghost use Rattle.callgraph.specs.StepTables.{IsSameMemory};
+ghost use Rattle.graphs.specs.Words.{Words};
+ghost use Rattle.lang.specs.Program.{Expr, Exprs, Prog, max_args};
+ghost use Rattle.lang.specs.Reads.{Reads};
+ghost use Rattle.lang.specs.Steps.{arcs, origin as origin_in};
+ghost use Rattle.origins.specs.Origins.{in_view, origin_from};
 ghost use Rattle.reading.specs.Heads.{HeadAt, width_of};
 ghost use Rattle.sizechange.specs.Graph.{Step};
-ghost use Rattle.table.specs.Rows.{points, width};
+ghost use Rattle.table.specs.Ends.{points};
+ghost use Rattle.table.specs.Rows.{width};
 
-use super::expressions::graph_of;
+use super::expressions::{end_of, head_of};
+use super::scope::Scope;
+use graphs::Graph;
+use origins::origin::{Origin, origin_at};
 use reading::head::Head;
 use table::{Edge, Row, put};
 
-/// The step of the expression at a place, if it is a call.
-pub fn step_at(
-    bytes: &[u8],
-    ends: &[u32],
-    known: &[u32],
-    at: usize,
-    head: Head,
-    vars: u32,
-    caller: u32,
-) -> Option<Edge>
-    requires ending { EndsFrom bytes.now ends.now 0 }
-    requires table { length bytes.now ≤ length ends.now }
-    requires head { HeadAt bytes.now at (Some head) }
-    requires stands { Stands bytes.now vars at }
-    requires within { vars ≤ length known.now }
-    requires caller { caller < points }
-    ensures step { (p : Prog) (e : Expr) (k : ℕ) → Standing p bytes.now vars at e k → OneStep (own caller (in_view known.now vars) e) result }
-    ensures ends { EndsOf result }
-    ensures wide { 3 * number result ≤ width_of head }
-{
-    let inside = at + head.width();
-    match head {
-        Head::Call(callee, n) => Some(Edge {
-            caller,
-            callee: callee as u32,
-            graph: graph_of(bytes, ends, known, vars, inside, n),
-        }),
-        _ => None,
+impl Scope<'_> {
+    /// The origin of the value of the expression at a place.
+    pub fn origin_of(&self, at: usize) -> Origin
+        requires { Stands self.now.script.bytes.now (length self.now.known.now) at }
+        ensures { (e : Expr) (x : List ℕ) → Reads (drop at self.now.script.bytes.now) e x → origin_from result ≡ origin_in (in_view self.now.known.now (length self.now.known.now)) e }
+    {
+        match head_of(&self.script, at) {
+            Head::Var(i) => origin_at(self.known, i as u32),
+            _ => Origin::Unknown,
+        }
+    }
+
+    /// The size-change graph of a call with n arguments, which stand one after the other from a place on.
+    pub fn graph_of(&self, at: usize, n: u8) -> Graph
+        requires stand { StandAll self.now.script.bytes.now (length self.now.known.now) at n }
+        requires few { n ≤ max_args }
+        ensures { (p : Prog) (es : Exprs) (k : ℕ) → StandingAll p self.now.script.bytes.now (length self.now.known.now) at n es k → Words result (arcs (in_view self.now.known.now (length self.now.known.now)) 0 es) }
+    {
+        let mut graph = Graph::none();
+        let mut start = at;
+        for i in 0..n {
+            graph = self.origin_of(start).lead(graph, i as u32);
+            start = end_of(&self.script, start);
+        }
+        graph
+    }
+
+    /// The step of the expression at a place, if it is a call.
+    pub fn step_at(&self, at: usize, head: Head, caller: u32) -> Option<Edge>
+        requires head { HeadAt self.now.script.bytes.now at (Some head) }
+        requires stands { Stands self.now.script.bytes.now (length self.now.known.now) at }
+        requires caller { caller < points }
+        ensures step { (p : Prog) (e : Expr) (k : ℕ) → Standing p self.now.script.bytes.now (length self.now.known.now) at e k → OneStep (own caller (in_view self.now.known.now (length self.now.known.now)) e) result }
+        ensures ends { EndsOf result }
+        ensures wide { 3 * number result ≤ width_of head }
+    {
+        let inside = at + head.width();
+        match head {
+            Head::Call(callee, n) => Some(Edge {
+                caller,
+                callee: callee as u32,
+                graph: self.graph_of(inside, n),
+            }),
+            _ => None,
+        }
     }
 }
 
-/// Writes the next step, if there is one; gives how many there are after.
-pub fn push(rows: &mut [u32], m: usize, step: Option<Edge>) -> usize
-    requires room { width * (m + number step) ≤ length rows.old }
-    requires few { m < 2 ^ 32 }
-    requires ends { EndsOf step }
-    ensures count { result ≡ m + number step }
-    ensures steps { (done ss : List Step) → StepRows rows.old done m → OneStep ss step → StepRows rows.new (done ++ ss) result }
-{
-    match step {
-        Some(edge) => {
+/// The steps that are listed so far, in the first `count` of the rows: lent words, since there is no heap.
+#[derive(Drop)]
+pub struct StepTable<'a> {
+    pub rows: &'a mut [u32],
+    pub count: usize,
+}
+
+impl StepTable<'_> {
+    /// Writes the next step, if there is one.
+    pub fn push(&mut self, step: Option<Edge>)
+        requires room { width * (self.old.count + number step) ≤ length self.old.rows.now }
+        requires few { self.old.count < 2 ^ 32 }
+        requires ends { EndsOf step }
+        ensures memory { IsSameMemory self.old self.new }
+        ensures count { self.new.count ≡ self.old.count + number step }
+        ensures steps { (done ss : List Step) → StepRows self.old.rows.now done self.old.count → OneStep ss step → StepRows self.new.rows.now (done ++ ss) self.new.count }
+    {
+        if let Some(edge) = step {
             let row = Row {
                 edge,
                 from: 0,
-                step: m as u32,
+                step: self.count as u32,
             };
-            put(rows, m, row, 0);
-            m + 1
+            put(self.rows, self.count, row, 0);
+            self.count += 1;
         }
-        None => m,
     }
 }

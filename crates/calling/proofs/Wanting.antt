@@ -7,9 +7,8 @@ use Rattle.sizechange.proofs.Lists.{nth_below}
 use Rattle.lang.specs.Program.{Fun, Prog}
 use Rattle.lang.specs.Bytes.{Program, takes}
 use Rattle.lang.proofs.Reading.{one_program, fine_parts, few_args}
-use Rattle.reading.specs.Tables.{Tables}
 use Rattle.reading.proofs.Places.{table_function}
-use Rattle.tasks.specs.Texts.{Ending, Taking}
+use Rattle.tasks.specs.Texts.{Taking}
 use Rattle.calling.specs.Calling.{Judged, Wants}
 
 pub same_program : (s ends starts : List ℕ) (k : ℕ) (j : Judged s ends starts k) (p : Prog) → Program s p → j.prog ≡ p
@@ -41,10 +40,3 @@ taking_below s ends starts k f n j t =
     let a = nth_below j.prog f x.1 in
     let b = (fine_parts s j.prog j.tables.program).1 in
     omega arith
-
--- what a text is made of
-pub ending : (s ends starts : List ℕ) (k : ℕ) → Judged s ends starts k → length s ≤ length ends → 64 ≤ length starts → Ending s ends starts
-ending s ends starts k j a b =
-    let m = j.tables.found.number in
-    let f = (fine_parts s j.prog j.tables.program).1 in
-    record { prog = j.prog; why = j.why; tables = subst (λ (i : ℕ). Tables s j.prog ends starts i) (sym m) j.tables; all_ends = a; all_starts = omega arith }

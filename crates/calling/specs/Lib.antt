@@ -1,2 +1,3 @@
 -- How a call of a script's function comes out.
 pub mod Calling
+pub mod Errors

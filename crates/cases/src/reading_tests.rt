@@ -88,8 +88,8 @@ fn no_calls(rt: HostRuntime) {
 #[test]
 fn limits(rt: HostRuntime) {
     let mut script = [0u8; 130];
-    for i in 0..65usize {
-        script[2 * i + 1] = 1;
+    for function in script.chunks_exact_mut(2) {
+        function[1] = 1;
     }
     assert_eq!(rt; functions(&script[0..128]), Some(64), "64 functions");
     assert_eq!(rt; functions(&script), None, "65 functions");
@@ -100,9 +100,7 @@ fn limits(rt: HostRuntime) {
 fn long_scripts(rt: HostRuntime) {
     let mut script = [1u8; 4097];
     script[0] = 0;
-    for i in 1..2048usize {
-        script[i] = 2;
-    }
+    script[1..2048].fill(2);
     assert_eq!(rt;
         functions(&script[0..4096]),
         Some(1),

@@ -6,7 +6,7 @@ use Rattle.sizechange.specs.Graph.{Arc, Step, nth, compose}
 use Rattle.sizechange.specs.Circle.{Along, one, more, Circle, Shortlex, FirstCircle}
 use Rattle.sizechange.proofs.Circles.{lex_last, shortlex_push, shortlex_trans, shortlex_not}
 use Rattle.table.specs.declared.Edge.{Edge}
-use Rattle.table.specs.declared.Row.{Row}
+use Rattle.table.specs.declared.row.Row.{Row}
 use Rattle.table.specs.Rows.{edge_of, row_at, rows}
 use Rattle.table.proofs.Rows.{nth_rows, rows_nth, rows_in}
 use Rattle.closure.specs.Ways as Before

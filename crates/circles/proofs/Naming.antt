@@ -8,7 +8,7 @@ use Rattle.lang.specs.Program.{Prog}
 use Rattle.lang.specs.Steps.{call_graph}
 use Rattle.lang.specs.Circle.{Call, Makes, Sooner, FirstCircle}
 use Rattle.lang.proofs.Calls.{index, makes_at, makes_caller, call_at, sooner_before, index_number, run_number}
-use Rattle.table.specs.declared.Row.{Row}
+use Rattle.table.specs.declared.row.Row.{Row}
 use Rattle.table.specs.Rows.{rows}
 use Rattle.table.proofs.Rows.{rows_nth}
 use Rattle.closure.specs.Parts.{caller}

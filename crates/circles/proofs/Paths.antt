@@ -6,7 +6,7 @@ use Rattle.sizechange.specs.Circle.{Lex, Shortlex}
 use Rattle.sizechange.proofs.Lists.{nth_below}
 use Rattle.sizechange.proofs.Circles.{length_push, lex_last, shortlex_push}
 use Rattle.lang.proofs.Calls.{nth_left}
-use Rattle.table.specs.declared.Row.{Row}
+use Rattle.table.specs.declared.row.Row.{Row}
 use Rattle.table.specs.Rows.{row_at, rows}
 use Rattle.table.proofs.Rows.{nth_push, nth_rows}
 use Rattle.closure.specs.Ways.{Made, begun, gone_on, Grown, nothing, grow}

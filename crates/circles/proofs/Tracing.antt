@@ -6,7 +6,8 @@ use Rattle.sizechange.specs.Graph.{nth}
 use Rattle.sizechange.proofs.Lists.{nth_below}
 use Rattle.sizechange.proofs.Circles.{length_push}
 use Rattle.lang.proofs.Calls.{nth_right}
-use Rattle.table.specs.declared.Row.{Row}
+use Rattle.table.specs.declared.row.Row.{Row}
+use Rattle.table.specs.declared.slice.RowSlice.{RowSlice}
 use Rattle.table.specs.Rows.{row_at}
 use Rattle.table.proofs.Rows.{nth_rows, length_rows}
 use Rattle.closure.specs.Ways.{Made, begun, gone_on}
@@ -19,14 +20,14 @@ made_step : {ts vs : List Row} {r : Row} → Made ts vs r → r.step < length ts
 made_step {ts} {r = r} (begun t from at e) = nth_below ts r.step at
 made_step {ts} {r = r} (gone_on k w t from way at e go) = nth_below ts r.step at
 
-pub row_traced : {st xs : List ℕ} {way : ℕ} (t : Traced st xs way) (k : ℕ) → k ≤ way → ((row_at xs k).from ≤ k) × ((row_at xs k).step < t.number)
+pub row_traced : {st xs : RowSlice} {way : ℕ} (t : Traced st xs way) (k : ℕ) → k ≤ way → ((row_at xs.words.now k).from ≤ k) × ((row_at xs.words.now k).step < st.count)
 row_traced {st} {xs} {way} t k l =
     let b = t.there in
-    let m = grown_made k (row_at xs k) t.grown (nth_rows xs t.count k (omega arith)) in
-    (m.1, omega (arith, made_step m.0, length_rows st t.number))
+    let m = grown_made k (row_at xs.words.now k) t.grown (nth_rows xs.words.now xs.count k (omega arith)) in
+    (m.1, omega (arith, made_step m.0, length_rows st.words.now st.count))
 
-pub traced_path : {st xs : List ℕ} {way : ℕ} → Traced st xs way → (is : List ℕ) × Path xs (suc way) is
-traced_path {st} {xs} {way} t = let b = t.there in path_some xs t.count t.grown (suc way) (suc way) (omega arith) (omega arith)
+pub traced_path : {st xs : RowSlice} {way : ℕ} → Traced st xs way → (is : List ℕ) × Path xs.words.now (suc way) is
+traced_path {st} {xs} {way} t = let b = t.there in path_some xs.words.now xs.count t.grown (suc way) (suc way) (omega arith) (omega arith)
 
 -- so many steps come after the way from which those before are counted
 pub record Counting (xs : List ℕ) (way from n : ℕ) : Type 0 where
@@ -36,13 +37,13 @@ pub record Counting (xs : List ℕ) (way from n : ℕ) : Type 0 where
 pub counting_none : (xs : List ℕ) (way from : ℕ) → from ≡ suc way → Counting xs way from 0
 counting_none xs way from e = record { few = omega arith; rest = λ is p. (is, subst (λ (k : ℕ). Path xs k is) (sym e) p, omega arith) }
 
-pub counting_more : {st xs : List ℕ} {way from n : ℕ} (k next : ℕ) → Traced st xs way → Counting xs way from n → from ≡ suc k → next ≡ (row_at xs k).from → Counting xs way next (n + 1)
+pub counting_more : {st xs : RowSlice} {way from n : ℕ} (k next : ℕ) → Traced st xs way → Counting xs.words.now way from n → from ≡ suc k → next ≡ (row_at xs.words.now k).from → Counting xs.words.now way next (n + 1)
 counting_more {st} {xs} {way} {from} {n} k next t c e f =
     let a = c.few in
     let b = (row_traced t k (omega arith)).0 in
     record {
       few = omega arith;
-      rest = λ is p. let x = c.rest is p in let y = path_last k x.1 e in (y.0, subst (λ (j : ℕ). Path xs j y.0) (sym f) y.1, omega (arith, x.2, ap length y.2, length_push y.0 (row_at xs k).step));
+      rest = λ is p. let x = c.rest is p in let y = path_last k x.1 e in (y.0, subst (λ (j : ℕ). Path xs.words.now j y.0) (sym f) y.1, omega (arith, x.2, ap length y.2, length_push y.0 (row_at xs.words.now k).step));
     }
 
 pub counting_all : {xs : List ℕ} {way from n : ℕ} → Counting xs way from n → from ≡ 0 → (is : List ℕ) → Path xs (suc way) is → length is ≡ n
@@ -70,21 +71,21 @@ pub record Writing (st xs : List ℕ) (way at : ℕ) (ws : List ℕ) (from left 
   pub rest : (is : List ℕ) → Path xs (suc way) is → (js : List ℕ) × (ks : List ℕ) × Path xs from js × (is ≡ js ++ ks) × (length js ≡ left) × (left ≤ at → (at ≡ left) ⊎ (ks ≡ [])) × Told st ws (left - at) ks
 
 -- while steps are left, there is a way to come from
-pub writing_from : {st xs ws : List ℕ} {way at from left : ℕ} → Traced st xs way → Writing st xs way at ws from left → 0 < left → 0 < from
+pub writing_from : {st xs : RowSlice} {ws : List ℕ} {way at from left : ℕ} → Traced st xs way → Writing st.words.now xs.words.now way at ws from left → 0 < left → 0 < from
 writing_from {from = from} {left = left} t w l = elim (cases_eq from 0) [ inl e ↦ let p = traced_path t in let x = w.rest p.0 p.1 in absurd (omega (arith, x.4, ap length (path_none x.2 e))) | inr d ↦ omega arith ]
 
-pub writing_more : {st xs ws : List ℕ} {way at from left : ℕ} (us : List ℕ) (k next step new : ℕ) → Traced st xs way → Writing st xs way at ws from left → from ≡ suc k → next ≡ (row_at xs k).from → step ≡ (row_at xs k).step → left ≡ suc new → at ≤ new → length us ≡ length ws → (2 * (new - at) + 1 < length ws → Names st us (new - at) step) → ((j : ℕ) → 2 * (new - at) + 1 < j → get_or us j 0 ≡ get_or ws j 0) → Writing st xs way at us next new
+pub writing_more : {st xs : RowSlice} {ws : List ℕ} {way at from left : ℕ} (us : List ℕ) (k next step new : ℕ) → Traced st xs way → Writing st.words.now xs.words.now way at ws from left → from ≡ suc k → next ≡ (row_at xs.words.now k).from → step ≡ (row_at xs.words.now k).step → left ≡ suc new → at ≤ new → length us ≡ length ws → (2 * (new - at) + 1 < length ws → Names st.words.now us (new - at) step) → ((j : ℕ) → 2 * (new - at) + 1 < j → get_or us j 0 ≡ get_or ws j 0) → Writing st.words.now xs.words.now way at us next new
 writing_more {st} {xs} {ws} {way} {at} {from} {left} us k next step new t w e f s d above long here others =
     let a = w.few in
     let b = (row_traced t k (omega arith)).0 in
     record { few = omega arith; rest = rest }
   where
-    rest : (is : List ℕ) → Path xs (suc way) is → (js : List ℕ) × (ks : List ℕ) × Path xs next js × (is ≡ js ++ ks) × (length js ≡ new) × (new ≤ at → (at ≡ new) ⊎ (ks ≡ [])) × Told st us (new - at) ks
+    rest : (is : List ℕ) → Path xs.words.now (suc way) is → (js : List ℕ) × (ks : List ℕ) × Path xs.words.now next js × (is ≡ js ++ ks) × (length js ≡ new) × (new ≤ at → (at ≡ new) ⊎ (ks ≡ [])) × Told st.words.now us (new - at) ks
     rest is p =
         let x = w.rest is p in
         let y = path_last k x.2 e in
         let z : x.0 ≡ y.0 ++ step ∷ [] = y.2 ∙ ap (λ (i : ℕ). y.0 ++ i ∷ []) (sym s) in
-        (y.0, step ∷ x.1, subst (λ (j : ℕ). Path xs j y.0) (sym f) y.1, x.3 ∙ (ap (λ (vs : List ℕ). vs ++ x.1) z ∙ append_assoc y.0 (step ∷ []) x.1), omega (arith, x.4, ap length z, length_push y.0 step), (λ l. inl (omega arith)), told_more st ws us (left - at) (new - at) step x.1 (omega arith) long here others x.6)
+        (y.0, step ∷ x.1, subst (λ (j : ℕ). Path xs.words.now j y.0) (sym f) y.1, x.3 ∙ (ap (λ (vs : List ℕ). vs ++ x.1) z ∙ append_assoc y.0 (step ∷ []) x.1), omega (arith, x.4, ap length z, length_push y.0 step), (λ l. inl (omega arith)), told_more st.words.now ws us (left - at) (new - at) step x.1 (omega arith) long here others x.6)
 
 pub writing_all : {st xs ws : List ℕ} {way at from left : ℕ} → Writing st xs way at ws from left → left ≤ at → (is : List ℕ) → Path xs (suc way) is → Named st is at ws
 writing_all {st} {xs} {ws} {way} {at} {from} {left} w l is p j i e b = go (w.rest is p)

@@ -3,7 +3,8 @@ use Rattle.std.specs.Prelude.{◌≡◌, ℕ, suc, ◌+◌, ◌*◌, ◌<◌, �
 use Rattle.std.proofs.Math.Option.{some}
 use Rattle.sizechange.specs.Graph.{nth}
 use Rattle.lang.specs.Circle.{Call}
-use Rattle.table.specs.Rows.{row_at, rows, width}
+use Rattle.table.specs.declared.slice.RowSlice.{RowSlice}
+use Rattle.table.specs.Rows.{row_at, rows}
 use Rattle.closure.specs.Parts.{caller}
 use Rattle.closure.specs.Ways.{Grown}
 
@@ -13,13 +14,9 @@ pub data Path (xs : List ℕ) : ℕ → List ℕ → Type 0 where
   on : {k : ℕ} {is : List ℕ} → Path xs (row_at xs k).from is → Path xs (suc k) (is ++ (row_at xs k).step ∷ [])
 
 -- the table of ways has grown from that of the steps, and way k is there
-pub record Traced (steps ways : List ℕ) (k : ℕ) : Type 0 where
-  pub number : ℕ
-  pub count : ℕ
-  pub steps_fit : width * number ≤ length steps
-  pub ways_fit : width * count ≤ length ways
-  pub there : k < count
-  pub grown : Grown (rows steps number) (rows ways count)
+pub record Traced (steps ways : RowSlice) (k : ℕ) : Type 0 where
+  pub there : k < ways.count
+  pub grown : Grown (rows steps.words.now steps.count) (rows ways.words.now ways.count)
 
 -- r rows right before row i have its caller, and no more
 pub record Run (xs : List ℕ) (i r : ℕ) : Type 0 where

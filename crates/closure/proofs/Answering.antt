@@ -4,17 +4,17 @@ use mathlib.Core.Option.{some}
 use Rattle.sizechange.specs.Graph.{Step, In, nth, HasReason, Way1, Ways}
 use Rattle.sizechange.specs.Theorems.{Fine}
 use Rattle.table.specs.declared.Edge.{Edge}
-use Rattle.table.specs.declared.Row.{Row}
+use Rattle.table.specs.declared.row.Row.{Row}
 use Rattle.table.specs.Rows.{edge_of, row_at, rows}
-use Rattle.table.proofs.Rows.{length_rows, in_rows, rows_in, nth_rows, rows_nth, rows_ends}
+use Rattle.table.proofs.Rows.{length_rows, in_rows, rows_in, nth_rows, rows_nth}
 use Rattle.closure.specs.Ways.{Then, Upto, Grown, GoesOn, Complete, RowsOfSteps, RowsOfWays, Sound, Fails}
 use Rattle.closure.specs.Parts.{Entered, Followed, Kept}
 use Rattle.closure.specs.Answers.{Whole}
 use Rattle.closure.proofs.Ways.{all_ways, many, each_length, sound_reason, fails_no_reason}
 
 -- m is the number of the steps that are kept
-pub entered_followed : (ts : List Row) (n limit : ℕ) (xs : List ℕ) (first m : ℕ) → m ≡ first → Entered ts n limit xs first → Followed ts m 0 limit xs first
-entered_followed ts n limit xs first m p e = record { grown = e.grown; most = e.most; few = omega arith; are_steps = λ j l. (e.are_steps (row_at xs j) (in_rows xs first j (omega arith))).0; none_later = λ q i. omega (arith, (e.are_steps q i).0); has = λ le i j l. absurd (omega arith) }
+pub entered_followed : {ts : List Row} {n limit : ℕ} {xs : List ℕ} {first m : ℕ} → m ≡ first → Entered ts n limit xs first → Followed ts m 0 limit xs first
+entered_followed {xs = xs} {first = first} p e = record { grown = e.grown; most = e.most; few = omega arith; are_steps = λ j l. (e.are_steps (row_at xs j) (in_rows xs first j (omega arith))).0; none_later = λ q i. omega (arith, (e.are_steps q i).0); has = λ le i j l. absurd (omega arith) }
 
 complete : (st : List ℕ) (n limit : ℕ) (xs : List ℕ) (first : ℕ) (ys : List ℕ) (r : ℕ) → Entered (rows st n) n limit xs first → first ≤ limit → Followed (rows st n) first r limit ys r → r ≤ limit → Kept xs first ys → Complete (rows st n) (rows ys r)
 complete st n limit xs first ys r e le f lr kept = record { steps = steps; ways = ways }
@@ -38,13 +38,14 @@ complete st n limit xs first ys r e le f lr kept = record { steps = steps; ways 
         let (q, qi, go, u) = f.has lr k j lk l (ap (λ (d : Edge). d.caller) same ∙ meets ∙ ap (λ (z : Row). z.edge.callee) (sym is)) in
         (q, qi, subst₂ (λ (x y : Edge). Then x y q.edge) (ap (λ (z : Row). z.edge) is) same go, elim u [ inl z ↦ inl z | inr z ↦ inr (z.0, omega (arith, z.1, step)) ])
 
-pub whole : (st : List ℕ) (n limit : ℕ) (xs : List ℕ) (first m : ℕ) (ys : List ℕ) (r : ℕ) → m ≡ first → Entered (rows st n) n limit xs first → first ≤ limit → Followed (rows st n) m r limit ys r → r ≤ limit → Kept xs first ys → Whole (rows st n) limit ys r
-whole st n limit xs first m ys r p e le f lr kept =
+-- zs are the same words as ys
+pub whole : (st : List ℕ) (n limit : ℕ) (xs : List ℕ) (first m : ℕ) (ys zs : List ℕ) (r : ℕ) → ys ≡ zs → m ≡ first → Entered (rows st n) n limit xs first → first ≤ limit → Followed (rows st n) m r limit ys r → r ≤ limit → Kept xs first ys → Whole (rows st n) limit zs r
+whole st n limit xs first m ys zs r q p e le f lr kept =
     let c = complete st n limit xs first ys r e le (subst (λ (k : ℕ). Followed (rows st n) k r limit ys r) p f) lr kept in
-    record { fits = lr; grown = f.grown; complete = c; ways = λ ss steps. let (ws, all, stand) = all_ways steps (rows_ends st n) f.grown c in (ws, all, sym (each_length stand) ∙ length_rows ys r, stand) }
+    subst (λ (us : List ℕ). Whole (rows st n) limit us r) q (record { fits = lr; grown = f.grown; complete = c; ways = λ ss steps. let (ws, all, stand) = all_ways steps f.grown c in (ws, all, sym (each_length stand) ∙ length_rows ys r, stand) })
 
 pub over : (st : List ℕ) (n limit : ℕ) (xs : List ℕ) (r : ℕ) → Grown (rows st n) (rows xs r) → limit < r → (ss : List Step) → RowsOfSteps (rows st n) ss → (ws : List Way1) × Ways ss ws × (limit < length ws)
-over st n limit xs r g l ss steps = let (ws, all, le) = many steps (rows_ends st n) g in (ws, all, omega (arith, le, length_rows xs r))
+over st n limit xs r g l ss steps = let (ws, all, le) = many steps g in (ws, all, omega (arith, le, length_rows xs r))
 
 -- The reason, from the rows.
 

@@ -1,27 +1,25 @@
 -- The steps are entered one by one.
-use Rattle.std.proofs.Common.{◌≡◌, ℕ, ◌+◌, ◌<◌, ◌≤◌, ◌⊎◌, List, sym, ap, ◌∙◌, subst, inl, inr, arith}
+use Rattle.std.proofs.Common.{◌≡◌, ℕ, zero, suc, ◌+◌, ◌<◌, ◌≤◌, ◌⊎◌, List, sym, ap, ◌∙◌, inl, inr, arith}
 use mathlib.Core.Option.{some}
 use Rattle.std.proofs.lemmas.Bool.{cases_eq}
 use Rattle.sizechange.specs.Graph.{In, nth}
-use Rattle.table.specs.declared.Row.{Row}
+use Rattle.table.specs.declared.row.Row.{Row}
 use Rattle.table.specs.Rows.{rows}
 use Rattle.table.specs.Index.{Added}
 use Rattle.closure.specs.Ways.{begun, Before, Upto, nothing}
 use Rattle.closure.specs.Parts.{Entered}
 use Rattle.closure.proofs.Growing.{grown_added, added_in, in_added, added_has}
 
-pub entered_none : (ts : List Row) (limit : ℕ) (xs : List ℕ) → Entered ts 0 limit xs 0
-entered_none ts limit xs = record { grown = nothing; most = omega arith; few = omega arith; are_steps = λ q i. elim i [ ]; has = λ le j t l. absurd (omega arith) }
+pub entered_none : (ts : List Row) (limit : ℕ) (xs : List ℕ) (count : ℕ) → count ≡ 0 → Entered ts 0 limit xs count
+entered_none ts limit xs (suc count) e = absurd (omega arith)
+entered_none ts limit xs zero e = record { grown = nothing; most = omega arith; few = omega arith; are_steps = λ q i. elim i [ ]; has = λ le j t l. absurd (omega arith) }
 
-pub entered_over : (ts : List Row) (i n limit : ℕ) (xs : List ℕ) (count : ℕ) → Entered ts i limit xs count → i ≤ n → limit < count → Entered ts n limit xs count
-entered_over ts i n limit xs count e le over =
+pub entered_over : {ts : List Row} {i n limit : ℕ} {xs : List ℕ} {count : ℕ} → Entered ts i limit xs count → i ≤ n → limit < count → Entered ts n limit xs count
+entered_over e le over =
     record { grown = e.grown; most = e.most; few = omega (arith, e.few); are_steps = λ q k. ((e.are_steps q k).0, omega (arith, (e.are_steps q k).1)); has = λ fits. absurd (omega arith) }
 
-pub entered_all : (ts : List Row) (i n limit : ℕ) (xs : List ℕ) (count : ℕ) → Entered ts i limit xs count → i ≡ n → Entered ts n limit xs count
-entered_all ts i n limit xs count e p = subst (λ (m : ℕ). Entered ts m limit xs count) p e
-
-pub entered_more : (ts : List Row) (i limit : ℕ) (xs ys : List ℕ) (count r : ℕ) (t row : Row) → Entered ts i limit xs count → count ≤ limit → nth ts i ≡ some t → row.edge ≡ t.edge → row.from ≡ 0 → row.step ≡ i → Added (rows xs count) row (rows ys r) → r ≤ count + 1 → Entered ts (i + 1) limit ys r
-entered_more ts i limit xs ys count r t row e fits at edge from step added most =
+pub entered_more : {ts : List Row} {i limit : ℕ} {xs : List ℕ} {count : ℕ} (ys : List ℕ) (r : ℕ) (t row : Row) → Entered ts i limit xs count → count ≤ limit → nth ts i ≡ some t → row.edge ≡ t.edge → row.from ≡ 0 → row.step ≡ i → Added (rows xs count) row (rows ys r) → r ≤ count + 1 → Entered ts (i + 1) limit ys r
+entered_more {ts} {i} {xs = xs} {count = count} ys r t row e fits at edge from step added most =
     record { grown = grown_added row e.grown (begun t from (ap (nth ts) step ∙ at) edge) before added; most = omega arith; few = omega (arith, e.few); are_steps = are_steps; has = λ le. has }
   where
     before : (q : Row) → In q (rows xs count) → Before q row

@@ -4,11 +4,14 @@ use mathlib.Core.Option.{some}
 use Rattle.std.proofs.lemmas.Bool.{cases_eq, cases_order}
 use Rattle.sizechange.specs.Graph.{In, nth}
 use Rattle.table.specs.declared.Edge.{Edge}
-use Rattle.table.specs.declared.Row.{Row}
+use Rattle.table.specs.declared.row.Row.{Row}
+use Rattle.table.specs.declared.Table.{Table}
 use Rattle.table.specs.Rows.{edge_of, row_at, rows}
-use Rattle.table.specs.Index.{Added, Chained}
+use Rattle.table.specs.Index.{Added}
+use Rattle.table.specs.Tables.{IsSameMemory, list_of}
+use Rattle.closure.specs.declared.Links.{Links}
 use Rattle.closure.specs.Ways.{Then, Made, gone_on, Before, Grown, GoesOn}
-use Rattle.closure.specs.Parts.{First, Linked, Followed, Kept, caller}
+use Rattle.closure.specs.Parts.{First, Linked, Followed, Kept, caller, Open, Ready, Advanced}
 use Rattle.closure.proofs.Linking.{linked_kept}
 use Rattle.table.proofs.Rows.{nth_rows, rows_same}
 use Rattle.closure.proofs.Growing.{grown_added, grown_before, grown_step, added_in, in_added, added_has}
@@ -41,13 +44,6 @@ pub record Following (ts : List Row) (first k s limit : ℕ) (xs : List ℕ) (co
   pub none_later : (q : Row) → In q (rows xs count) → (q.from ≤ k) ⊎ ((q.from ≡ suc k) × ((j : ℕ) → s ≤ j → j < first → q.step < (row_at xs j).step))
   pub has : count ≤ limit → (i j : ℕ) → (i < k) ⊎ ((i ≡ k) × (j < s)) → j < first → caller xs j ≡ (edge_of xs i).callee → GoesOn (rows xs count) (edge_of xs i) (edge_of xs j) i (row_at xs j).step
 
-pub following_none : (ts : List Row) (first k s limit : ℕ) (xs : List ℕ) (count : ℕ) → Followed ts first k limit xs count → First (caller xs) 0 first (edge_of xs k).callee s → Following ts first k s limit xs count
-following_none ts first k s limit xs count f x = record { grown = f.grown; are_steps = f.are_steps; none_later = λ q i. inl (f.none_later q i); has = has }
-  where
-    has : count ≤ limit → (i j : ℕ) → (i < k) ⊎ ((i ≡ k) × (j < s)) → j < first → caller xs j ≡ (edge_of xs i).callee → GoesOn (rows xs count) (edge_of xs i) (edge_of xs j) i (row_at xs j).step
-    has le i j (inl l) lj e = f.has le i j l lj e
-    has le i j (inr (p, l)) lj e = absurd (x.before j (omega arith) l (e ∙ ap (λ (m : ℕ). (edge_of xs m).callee) p))
-
 pub following_all : (ts : List Row) (first k s limit : ℕ) (xs : List ℕ) (count : ℕ) → Following ts first k s limit xs count → first ≤ count → count ≤ limit + 1 → (count ≤ limit → first ≤ s) → Followed ts first (k + 1) limit xs count
 following_all ts first k s limit xs count f few most over = record { grown = f.grown; most = most; few = few; are_steps = f.are_steps; none_later = none_later; has = has }
   where
@@ -56,6 +52,14 @@ following_all ts first k s limit xs count f few most over = record { grown = f.g
 
     has : count ≤ limit → (i j : ℕ) → i < k + 1 → j < first → caller xs j ≡ (edge_of xs i).callee → GoesOn (rows xs count) (edge_of xs i) (edge_of xs j) i (row_at xs j).step
     has le i j li lj e = f.has le i j (elim (cases_eq i k) [ inl z ↦ inr (z, omega (arith, over le)) | inr z ↦ inl (omega arith) ]) lj e
+
+-- no step has been taken yet
+following_none : (ts : List Row) (first k s limit : ℕ) (xs : List ℕ) (count : ℕ) → Followed ts first k limit xs count → First (caller xs) 0 first (edge_of xs k).callee s → Following ts first k s limit xs count
+following_none ts first k s limit xs count f x = record { grown = f.grown; are_steps = f.are_steps; none_later = λ q i. inl (f.none_later q i); has = has }
+  where
+    has : count ≤ limit → (i j : ℕ) → (i < k) ⊎ ((i ≡ k) × (j < s)) → j < first → caller xs j ≡ (edge_of xs i).callee → GoesOn (rows xs count) (edge_of xs i) (edge_of xs j) i (row_at xs j).step
+    has le i j (inl l) lj e = f.has le i j l lj e
+    has le i j (inr (p, l)) lj e = absurd (x.before j (omega arith) l (e ∙ ap (λ (m : ℕ). (edge_of xs m).callee) p))
 
 -- step s is taken: `row` is way k and then step s
 pub following_more : (ts : List Row) (first k s s' limit : ℕ) (xs ys : List ℕ) (count r : ℕ) (row : Row) → Following ts first k s limit xs count → k < count → first ≤ count → count ≤ limit → s < first → caller xs s ≡ (edge_of xs k).callee → Then (edge_of xs k) (edge_of xs s) row.edge → row.from ≡ k + 1 → row.step ≡ (row_at xs s).step → Added (rows xs count) row (rows ys r) → Kept xs count ys → First (caller xs) (s + 1) first (caller xs s) s' → Following ts first k s' limit ys r
@@ -121,79 +125,86 @@ following_more ts first k s s' limit xs ys count r row f lk few fits ls meets go
         at (inr (inl z)) li m = shift i j li lj (wider (f.has fits i j (inr (p, z)) lj m))
         at (inr (inr z)) li m = absurd (next.before j (omega arith) l (m ∙ ap (λ (a : ℕ). (edge_of xs a).callee) p ∙ sym meets))
 
--- A turn of the loop, with what it holds; ws are the words and n₀ the rows before the first.
-pub record Turn (ws : List ℕ) (n₀ k limit : ℕ) (starts nexts : List ℕ) (way : Edge) (xs heads : List ℕ) (count s : ℕ) : Type 0 where
-  pub chained : count ≤ limit → Chained xs heads count
-  pub linked : Linked 0 (length nexts) xs starts nexts
-  pub kept : Kept ws n₀ xs
-  pub more : n₀ ≤ count
-  pub most : count ≤ limit + 1
-  pub is_way : way ≡ edge_of xs k
-  pub meets : s < length nexts → caller xs s ≡ way.callee
-  pub following : (ts : List Row) → Followed ts (length nexts) k limit ws n₀ → Following ts (length nexts) k s limit xs count
+-- A turn of the loop over the steps: t₀ is the table before the first, s the next step.
+pub record Turn (l : Links) (limit k : ℕ) (way : Edge) (t₀ t : Table) (s : ℕ) : Type 0 where
+  pub memory : IsSameMemory t₀ t
+  pub kept : Kept t₀.rows.now t₀.count t.rows.now
+  pub more : t₀.count ≤ t.count
+  pub most : t.count ≤ limit + 1
+  pub linked : Linked 0 (length l.nexts.now) t.rows.now l.starts.now l.nexts.now
+  pub is_way : way ≡ edge_of t.rows.now k
+  pub meets : s < length l.nexts.now → caller t.rows.now s ≡ way.callee
+  pub following : (ts : List Row) → Followed ts (length l.nexts.now) k limit t₀.rows.now t₀.count → Following ts (length l.nexts.now) k s limit t.rows.now t.count
 
-pub turn_none : (ws : List ℕ) (n₀ k limit : ℕ) (starts nexts : List ℕ) (way : Edge) (heads : List ℕ) → (n₀ ≤ limit → Chained ws heads n₀) → Linked 0 (length nexts) ws starts nexts → n₀ ≤ limit + 1 → way ≡ edge_of ws k → way.callee < 64 → Turn ws n₀ k limit starts nexts way ws heads n₀ (get_or starts way.callee 0)
-turn_none ws n₀ k limit starts nexts way heads c l most is lc =
-    let s = l.starts_first way.callee lc in
+memory_then : {t u v : Table} → IsSameMemory t u → IsSameMemory u v → IsSameMemory t v
+memory_then a b = record { rows = b.rows ∙ a.rows; heads = b.heads ∙ a.heads; words = b.words ∙ a.words; some_heads = b.some_heads ∙ a.some_heads }
+
+pub turn_none : {l : Links} {limit k : ℕ} {t : Table} (way : Row) → Ready t l limit → way ≡ row_at t.rows.now k → Turn l limit k way.edge t t (get_or l.starts.now way.edge.callee 0)
+turn_none {l} {limit} {k} {t} way r is =
+    let n = length l.nexts.now in
+    let s = get_or l.starts.now way.edge.callee 0 in
+    let first = r.linked.starts_first way.edge.callee way.ends.callee_below in
     record {
-      chained = c;
-      linked = l;
+      memory = record { rows = refl; heads = refl; words = refl; some_heads = refl };
       kept = λ j m. refl;
       more = omega arith;
-      most = most;
-      is_way = is;
-      meets = s.here;
-      following = λ ts f. following_none ts (length nexts) k (get_or starts way.callee 0) limit ws n₀ f (subst (λ (e : Edge). First (caller ws) 0 (length nexts) e.callee (get_or starts way.callee 0)) is s);
+      most = omega (arith, r.is_open.fits);
+      linked = r.linked;
+      is_way = ap (λ (q : Row). q.edge) is;
+      meets = first.here;
+      following = λ ts f. following_none ts n k s limit t.rows.now t.count f (subst (λ (q : Row). First (caller t.rows.now) 0 n q.edge.callee s) is first);
     }
+
+-- `step` is what the word says
+pub turn_said : {l : Links} {limit k : ℕ} {way : Edge} {t₀ t : Table} {s step : ℕ} → step ≡ s → Turn l limit k way t₀ t s → Turn l limit k way t₀ t step
+turn_said {l} {limit} {k} {way} {t₀} {t} e x = subst (λ (s : ℕ). Turn l limit k way t₀ t s) (sym e) x
 
 -- `last` is the row of the step taken
-pub turn_more : (ws : List ℕ) (n₀ k limit : ℕ) (starts nexts : List ℕ) (way : Edge) (xs heads : List ℕ) (count s : ℕ) (ys heads' : List ℕ) (r : ℕ) (last row : Row) → Turn ws n₀ k limit starts nexts way xs heads count s → k < n₀ → length nexts ≤ n₀ → count ≤ limit → s < length nexts → last ≡ row_at xs s → Then way last.edge row.edge → row.from ≡ k + 1 → row.step ≡ last.step → (r ≤ limit → Chained ys heads' r) → Added (rows xs count) row (rows ys r) → Kept xs count ys → count ≤ r → r ≤ count + 1 → Turn ws n₀ k limit starts nexts way ys heads' r (get_or nexts s 0)
-turn_more ws n₀ k limit starts nexts way xs heads count s ys heads' r last row t lk few fits ls is_last go from step chained added kept more most =
+pub turn_more : {l : Links} {limit k : ℕ} {way : Edge} {t₀ t t' : Table} {s : ℕ} (last row : Row) → Turn l limit k way t₀ t s → Ready t₀ l limit → k < t₀.count → t.count ≤ limit → s < length l.nexts.now → last ≡ row_at t.rows.now s → Then way last.edge row.edge → row.from ≡ k + 1 → row.step ≡ last.step → IsSameMemory t t' → Added (list_of t) row (list_of t') → Kept t.rows.now t.count t'.rows.now → t.count ≤ t'.count → t'.count ≤ t.count + 1 → Turn l limit k way t₀ t' (get_or l.nexts.now s 0)
+turn_more {l} {limit} {k} {way} {t₀} {t} {t'} {s} last row x r lk fits ls is_last go from step memory added kept more most =
+    let few = r.few in
     record {
-      chained = chained;
-      linked = linked_kept 0 (length nexts) count xs ys starts nexts (omega (arith, t.more)) kept t.linked;
-      kept = λ j l. kept j (omega (arith, t.more)) ∙ t.kept j l;
-      more = omega (arith, t.more);
+      memory = memory_then x.memory memory;
+      kept = λ j m. kept j (omega (arith, x.more)) ∙ x.kept j m;
+      more = omega (arith, x.more);
       most = omega arith;
-      is_way = t.is_way ∙ ap (λ (q : Row). q.edge) (sym (kept k (omega (arith, t.more))));
-      meets = λ l. ap (λ (q : Row). q.edge.caller) (kept (get_or nexts s 0) (omega (arith, t.more))) ∙ next.here l ∙ t.meets ls;
-      following = λ ts f. following_more ts (length nexts) k s (get_or nexts s 0) limit xs ys count r row (t.following ts f) (omega (arith, t.more)) (omega (arith, t.more)) fits ls (t.meets ls ∙ ap (λ (e : Edge). e.callee) t.is_way) goes from (step ∙ ap (λ (q : Row). q.step) is_last) added kept next;
+      linked = linked_kept 0 n t.count t.rows.now t'.rows.now l.starts.now l.nexts.now (omega (arith, x.more)) kept x.linked;
+      is_way = x.is_way ∙ ap (λ (q : Row). q.edge) (sym (kept k (omega (arith, x.more))));
+      meets = λ m. ap (λ (q : Row). q.edge.caller) (kept (get_or l.nexts.now s 0) (omega (arith, x.more))) ∙ next.here m ∙ x.meets ls;
+      following = λ ts f. following_more ts n k s (get_or l.nexts.now s 0) limit t.rows.now t'.rows.now t.count t'.count row (x.following ts f) (omega (arith, x.more)) (omega (arith, x.more)) fits ls (x.meets ls ∙ ap (λ (e : Edge). e.callee) x.is_way) goes from (step ∙ ap (λ (q : Row). q.step) is_last) added kept next;
     }
   where
-    next : First (caller xs) (s + 1) (length nexts) (caller xs s) (get_or nexts s 0)
-    next = t.linked.nexts_first s (omega arith) ls
+    n : ℕ
+    n = length l.nexts.now
 
-    goes : Then (edge_of xs k) (edge_of xs s) row.edge
-    goes = subst₂ (λ (x y : Edge). Then x y row.edge) t.is_way (ap (λ (q : Row). q.edge) is_last) go
+    next : First (caller t.rows.now) (s + 1) n (caller t.rows.now s) (get_or l.nexts.now s 0)
+    next = x.linked.nexts_first s (omega arith) ls
 
--- The table from way k₀ on to way k; ws are the words and n₀ the rows at first.
-pub record Going (ws : List ℕ) (n₀ k₀ limit : ℕ) (starts nexts xs : List ℕ) (count k : ℕ) : Type 0 where
-  pub linked : Linked 0 (length nexts) xs starts nexts
-  pub kept : Kept ws n₀ xs
-  pub more : n₀ ≤ count
-  pub most : count ≤ limit + 1
-  pub here : k ≤ count
-  pub followed : (ts : List Row) → Followed ts (length nexts) k₀ limit ws n₀ → Followed ts (length nexts) k limit xs count
+    goes : Then (edge_of t.rows.now k) (edge_of t.rows.now s) row.edge
+    goes = subst₂ (λ (v w : Edge). Then v w row.edge) x.is_way (ap (λ (q : Row). q.edge) is_last) go
 
-pub going_none : (ws : List ℕ) (n₀ k₀ limit : ℕ) (starts nexts : List ℕ) → Linked 0 (length nexts) ws starts nexts → n₀ ≤ limit + 1 → k₀ ≤ n₀ → Going ws n₀ k₀ limit starts nexts ws n₀ k₀
-going_none ws n₀ k₀ limit starts nexts linked most here = record { linked = linked; kept = λ j l. refl; more = omega arith; most = most; here = here; followed = λ ts f. f }
+-- all the steps have been taken, or there are too many ways
+pub turn_all : {l : Links} {limit k : ℕ} {way : Edge} {t₀ t : Table} {s : ℕ} → Turn l limit k way t₀ t s → Ready t₀ l limit → (t.count ≤ limit → length l.nexts.now ≤ s) → Advanced l limit k (k + 1) t₀ t
+turn_all {l} {limit} {k} {t = t} {s = s} x r over =
+    let few = r.few in
+    record { memory = x.memory; kept = x.kept; more = x.more; followed = λ ts f. following_all ts (length l.nexts.now) k s limit t.rows.now t.count (x.following ts f) (omega (arith, x.more)) x.most over }
 
-pub going_more : (ws : List ℕ) (n₀ k₀ limit : ℕ) (starts nexts xs : List ℕ) (count k : ℕ) (ys : List ℕ) (r k' : ℕ) → Going ws n₀ k₀ limit starts nexts xs count k → length nexts ≤ n₀ → Kept xs count ys → count ≤ r → r ≤ limit + 1 → k' ≤ r → ((ts : List Row) → Followed ts (length nexts) k limit xs count → Followed ts (length nexts) k' limit ys r) → Going ws n₀ k₀ limit starts nexts ys r k'
-going_more ws n₀ k₀ limit starts nexts xs count k ys r k' g few kept more most here followed =
-    record {
-      linked = linked_kept 0 (length nexts) count xs ys starts nexts (omega (arith, g.more)) kept g.linked;
-      kept = λ j l. kept j (omega (arith, g.more)) ∙ g.kept j l;
-      more = omega (arith, g.more);
-      most = most;
-      here = here;
-      followed = λ ts f. followed ts (g.followed ts f);
-    }
+-- From way to way.
 
--- from before the rows were chained anew
-pub going_since : (ws : List ℕ) (n₀ k₀ limit : ℕ) (starts nexts xs ys : List ℕ) (count k : ℕ) → k₀ ≤ n₀ → Kept ws n₀ xs → Going xs n₀ k₀ limit starts nexts ys count k → Going ws n₀ k₀ limit starts nexts ys count k
-going_since ws n₀ k₀ limit starts nexts xs ys count k here kept g =
-    record { linked = g.linked; kept = λ j l. g.kept j l ∙ kept j l; more = g.more; most = g.most; here = g.here; followed = λ ts f. g.followed ts (followed_kept ts (length nexts) k₀ limit ws xs n₀ here kept f) }
+pub advanced_then : {l : Links} {limit k k' k'' : ℕ} {t t' t'' : Table} → Advanced l limit k k' t t' → Advanced l limit k' k'' t' t'' → Advanced l limit k k'' t t''
+advanced_then a b = record { memory = memory_then a.memory b.memory; kept = λ j m. b.kept j (omega (arith, a.more)) ∙ a.kept j m; more = omega (arith, a.more, b.more); followed = λ ts f. b.followed ts (a.followed ts f) }
+
+-- chained anew
+pub ready_chained : {l : Links} {limit : ℕ} {t t' : Table} → Ready t l limit → Open t' limit → t'.count ≡ t.count → ((j : ℕ) → row_at t'.rows.now j ≡ row_at t.rows.now j) → Ready t' l limit
+ready_chained {l} {t = t} {t' = t'} r is_open count kept = record { is_open = is_open; points = r.points; few = omega (arith, r.few); linked = linked_kept 0 (length l.nexts.now) t.count t.rows.now t'.rows.now l.starts.now l.nexts.now r.few (λ j m. kept j) r.linked }
+
+pub advanced_chained : {l : Links} {limit k : ℕ} {t t' : Table} → k ≤ t.count → IsSameMemory t t' → t'.count ≡ t.count → ((j : ℕ) → row_at t'.rows.now j ≡ row_at t.rows.now j) → Advanced l limit k k t t'
+advanced_chained {l} {limit} {k} {t} {t'} here memory count kept =
+    record { memory = memory; kept = λ j m. kept j; more = omega arith; followed = λ ts f. subst (λ (c : ℕ). Followed ts (length l.nexts.now) k limit t'.rows.now c) (sym count) (followed_kept ts (length l.nexts.now) k limit t.rows.now t'.rows.now t.count here (λ j m. kept j) f) }
+
+followed_all : (ts : List Row) (first k limit : ℕ) (xs : List ℕ) (count : ℕ) → Followed ts first k limit xs count → k ≤ count → (count ≤ limit → count ≤ k) → Followed ts first count limit xs count
+followed_all ts first k limit xs count f here over = record { grown = f.grown; most = f.most; few = f.few; are_steps = f.are_steps; none_later = λ q i. omega (arith, f.none_later q i); has = λ le i j l. f.has le i j (omega (arith, over le)) }
 
 -- all ways have been followed, or there are too many
-pub followed_all : (ts : List Row) (first k limit : ℕ) (xs : List ℕ) (count : ℕ) → Followed ts first k limit xs count → k ≤ count → (count ≤ limit → count ≤ k) → Followed ts first count limit xs count
-followed_all ts first k limit xs count f here over = record { grown = f.grown; most = f.most; few = f.few; are_steps = f.are_steps; none_later = λ q i. omega (arith, f.none_later q i); has = λ le i j l. f.has le i j (omega (arith, over le)) }
+pub advanced_all : {l : Links} {limit k k' : ℕ} {t t' : Table} → Advanced l limit k k' t t' → k' ≤ t'.count → (t'.count ≤ limit → t'.count ≤ k') → Advanced l limit k t'.count t t'
+advanced_all {l} {limit} {k' = k'} {t' = t'} a here over = record { memory = a.memory; kept = a.kept; more = a.more; followed = λ ts f. followed_all ts (length l.nexts.now) k' limit t'.rows.now t'.count (a.followed ts f) here over }

@@ -4,7 +4,7 @@ use mathlib.Core.Option.{some}
 use Rattle.sizechange.specs.Graph.{In, here, nth}
 use Rattle.sizechange.proofs.Arcs.{in_cons, in_left, in_right, in_append}
 use Rattle.sizechange.proofs.Lists.{nth_below, nth_in}
-use Rattle.table.specs.declared.Row.{Row}
+use Rattle.table.specs.declared.row.Row.{Row}
 use Rattle.table.specs.Index.{Added}
 use Rattle.table.proofs.Rows.{nth_push}
 use Rattle.closure.specs.Ways.{Made, begun, gone_on, Before, Grown, nothing, grow}

@@ -8,8 +8,8 @@ use Rattle.sizechange.proofs.Ways.{closed_is_all, many_ways}
 use Rattle.sizechange.proofs.Reason.{reason_listed, no_reason}
 use Rattle.graphs.proofs.Words.{words_alike, alike_words}
 use Rattle.table.specs.declared.Edge.{Edge}
-use Rattle.table.specs.declared.Row.{Row}
-use Rattle.table.specs.Rows.{Ends, row_at, rows}
+use Rattle.table.specs.declared.row.Row.{Row}
+use Rattle.table.specs.Rows.{row_at, rows}
 use Rattle.table.proofs.Rows.{edge_path, length_rows, nth_push, rows_nth}
 use Rattle.closure.specs.Ways.{Made, begun, gone_on, Grown, nothing, grow, Complete, Stands, Each, end, and, RowsOfSteps, RowsOfWays, Sound, Fails}
 
@@ -130,22 +130,21 @@ complete_closed {ts} {vs} {ss} steps b g c = record { different = grown_differen
         let (r, ir, go, u) = c.ways i k q t qis tis (st.caller ∙ e ∙ sym qst.callee) in
         listed r b.stand ir refl (record { caller = go.caller ∙ qst.caller; callee = go.callee ∙ st.callee; words = go.graph w.arcs s.arcs qst.words st.words })
 
-pub fine_steps : {ts : List Row} {ss : List Step} → RowsOfSteps ts ss → ((t : Row) → In t ts → Ends t.edge) → Fine 64 8 ss
-fine_steps steps ends s i =
+pub fine_steps : {ts : List Row} {ss : List Step} → RowsOfSteps ts ss → Fine 64 8 ss
+fine_steps steps s i =
     let (k, at) = in_nth i in
     let (t, is, st) = each_nth k (each_flip steps) at in
-    let e = ends t (nth_in _ k is) in
-    let a = e.caller_below in
-    let b = e.callee_below in
+    let a = t.ends.caller_below in
+    let b = t.ends.callee_below in
     record { caller_below = omega (arith, st.caller); callee_below = omega (arith, st.callee); arcs_fine = st.words.fine }
 
-pub all_ways : {ts vs : List Row} {ss : List Step} → RowsOfSteps ts ss → ((t : Row) → In t ts → Ends t.edge) → Grown ts vs → Complete ts vs → (ws : List Way1) × Ways ss ws × RowsOfWays vs ws
-all_ways {ss = ss} steps ends g c = let b = bridge steps g in (b.list, closed_is_all 64 8 ss b.list (fine_steps steps ends) (complete_closed steps b g c), b.stand)
+pub all_ways : {ts vs : List Row} {ss : List Step} → RowsOfSteps ts ss → Grown ts vs → Complete ts vs → (ws : List Way1) × Ways ss ws × RowsOfWays vs ws
+all_ways {ss = ss} steps g c = let b = bridge steps g in (b.list, closed_is_all 64 8 ss b.list (fine_steps steps) (complete_closed steps b g c), b.stand)
 
-pub many : {ts vs : List Row} {ss : List Step} → RowsOfSteps ts ss → ((t : Row) → In t ts → Ends t.edge) → Grown ts vs → (ws : List Way1) × Ways ss ws × (length vs ≤ length ws)
-many steps ends g =
+pub many : {ts vs : List Row} {ss : List Step} → RowsOfSteps ts ss → Grown ts vs → (ws : List Way1) × Ways ss ws × (length vs ≤ length ws)
+many steps g =
     let b = bridge steps g in
-    let (ws, all, le) = many_ways (fine_steps steps ends) (grown_different b g) in
+    let (ws, all, le) = many_ways (fine_steps steps) (grown_different b g) in
     (ws, all, omega (arith, le, each_length b.stand))
 
 -- The reason.

@@ -1,9 +1,13 @@
 -- What the parts of the closure promise each other.
-use Rattle.std.specs.Prelude.{◌≡◌, ℕ, ◌+◌, ◌*◌, ◌^◌, ◌<◌, ◌≤◌, List, ◌≢◌, slice_index}
+use Rattle.std.specs.Prelude.{◌≡◌, ℕ, ◌+◌, ◌*◌, ◌^◌, ◌<◌, ◌≤◌, List, length, ◌≢◌, slice_index}
 use Rattle.std.proofs.Math.Option.{some}
 use Rattle.sizechange.specs.Graph.{In, nth}
-use Rattle.table.specs.declared.Row.{Row}
-use Rattle.table.specs.Rows.{edge_of, points, row_at, rows, width}
+use Rattle.table.specs.declared.row.Row.{Row}
+use Rattle.table.specs.declared.Table.{Table}
+use Rattle.table.specs.Tables.{IsChained, IsSameMemory}
+use Rattle.closure.specs.declared.Links.{Links}
+use Rattle.table.specs.Ends.{points}
+use Rattle.table.specs.Rows.{edge_of, row_at, rows, width}
 use Rattle.closure.specs.Ways.{Upto, Grown, GoesOn}
 
 -- room for one way more than allowed, by which too many are seen
@@ -46,3 +50,24 @@ pub record Followed (ts : List Row) (first k limit : ℕ) (xs : List ℕ) (count
 -- the first n rows are as they were
 abbrev pub Kept : List ℕ → ℕ → List ℕ → Type 0
 Kept xs n ys = (j : ℕ) → j < n → row_at ys j ≡ row_at xs j
+
+-- a table of no more ways than allowed, and room for one more than that
+pub record Open (t : Table) (limit : ℕ) : Type 0 where
+  pub room : Room limit (length t.rows.now)
+  pub heads : length t.heads.now ≤ 2 ^ 32
+  pub chained : IsChained t
+  pub fits : t.count ≤ limit
+
+-- its ways can be followed by linked steps
+pub record Ready (t : Table) (l : Links) (limit : ℕ) : Type 0 where
+  pub is_open : Open t limit
+  pub points : length l.starts.now ≡ points
+  pub few : length l.nexts.now ≤ t.count
+  pub linked : Linked 0 (length l.nexts.now) t.rows.now l.starts.now l.nexts.now
+
+-- those from way k up to way k' have been followed
+pub record Advanced (l : Links) (limit k k' : ℕ) (t t' : Table) : Type 0 where
+  pub memory : IsSameMemory t t'
+  pub kept : Kept t.rows.now t.count t'.rows.now
+  pub more : t.count ≤ t'.count
+  pub followed : (ts : List Row) → Followed ts (length l.nexts.now) k limit t.rows.now t.count → Followed ts (length l.nexts.now) k' limit t'.rows.now t'.count

@@ -4,7 +4,7 @@ use Rattle.std.proofs.Math.Option.{some}
 use Rattle.sizechange.specs.Graph.{Arc, Step, In, nth, compose, leads, Idempotent, Way1}
 use Rattle.graphs.specs.Words.{Words}
 use Rattle.table.specs.declared.Edge.{Edge}
-use Rattle.table.specs.declared.Row.{Row}
+use Rattle.table.specs.declared.row.Row.{Row}
 use Rattle.table.specs.Index.{Has}
 
 -- edge r is edge x and then edge y

@@ -1,53 +1,64 @@
 -- The promise of `go`, put together.
-use Rattle.std.proofs.Common.{◌≡◌, ℕ, ◌^◌, ◌<◌, Bool, true, false, ◌↔◌, List, refl, arith}
-use Rattle.std.proofs.lemmas.Bool.{both_ways}
+use Rattle.std.proofs.Common.{◌≡◌, ℕ, ◌+◌, ◌-◌, ◌^◌, ◌<◌, ◌≤◌, List, length, take, refl, sym, subst, inl, inr, arith, ◌⊎◌}
+use Rattle.std.proofs.lemmas.List.{get_or-take, length-take-le}
+use Rattle.std.proofs.Math.Nat.{min-le_left}
+use Rattle.std.specs.Prelude.{min, ◌≢◌, Option, None, Result, Ok, Err}
+use Rattle.sizechange.proofs.Lists.{nth_below}
 use Rattle.lang.specs.Program.{Prog}
-use Rattle.lang.specs.Eval.{Outcome}
-use Rattle.lang.specs.Steps.{EndsForAReason}
-use Rattle.judging.specs.Verdicts.{Judgeable}
-use Rattle.calling.specs.declared.Called.{Called}
-use Rattle.calling.specs.declared.Called.TheVariants as called
-use Rattle.calling.specs.Calling.{ComesTo, CalledSays}
-use Rattle.ends.specs.declared.Ran.{Ran}
-use Rattle.ends.specs.declared.Ran.TheVariants.{Unproved, Small}
-use Rattle.ends.specs.Going.{Ready, Comes, GoSays, TooSmall, GoPost, answer_of, Left}
+use Rattle.lang.specs.Steps.{call_graph}
+use Rattle.reading.specs.Functions.{StandsAt}
+use Rattle.reading.specs.Tables.{Tables}
+use Rattle.judging.specs.Verdicts.{Decided, VerdictSays}
+use Rattle.judging.specs.declared.Verdict.{Verdict}
+use Rattle.calling.specs.declared.Value.{Value as Called}
+use Rattle.calling.specs.Calling.{Judged, CalledSays}
+use Rattle.ends.specs.declared.go_call.Value.{Value}
+use Rattle.ends.specs.declared.go_call.Refusal.{Refusal}
+use Rattle.ends.specs.declared.go_call.Refusal.TheVariants.{Small}
+use Rattle.ends.specs.Going.{GoSays, GoPost, go_floor}
 use Rattle.ends.proofs.Posts.{theorems}
 use Rattle.ends.proofs.Rooms.{no_more_room}
 
-pub small_post : (s : List ℕ) (n f : ℕ) (a : List ℕ) (d r : ℕ) (o : List ℕ) (w : ℕ) (b : Bool) → TooSmall s n a d r w ↔ (b ≡ true) → b ≡ true → GoPost s n f a d r o o w Small
-small_post s n f a d r o w b h e = record { says = refl; theorems = theorems; small = ((λ _. refl), (λ _. h.1 e)) }
+module _ (s : List ℕ) (n f : ℕ) (a : List ℕ) (d r : ℕ) (o : List ℕ) (w : ℕ) where
+  -- more nodes than can be numbered
+  pub many_nodes : 2 ^ 32 ≤ length a + r → GoPost s n f a d r o o w (Err Small)
+  many_nodes l = record { says = refl; theorems = theorems; small = ((λ _. refl), (λ _. inr l)) }
 
--- an answer other than small, where there are words enough
-pub go_post : (s : List ℕ) (n f : ℕ) (a : List ℕ) (d r : ℕ) (o o' : List ℕ) (w : ℕ) (b : Bool) (x : Ran) → (x ≡ Small → ⊥) → TooSmall s n a d r w ↔ (b ≡ true) → b ≡ false → GoSays s n f a d r o o' x → GoPost s n f a d r o o' w x
-go_post s n f a d r o o' w b x ne h e says = record { says = says; theorems = theorems; small = ((λ t. absurd (both_ways b e (h.0 t))), (λ z. absurd (ne z))) }
+  -- fewer words than are wanted
+  pub few_words : (m : ℕ) → m ≡ min (go_floor s n a d r) (2 ^ 64 - 1) → w < m → GoPost s n f a d r o o w (Err Small)
+  few_words m e l = record { says = refl; theorems = theorems; small = ((λ _. refl), (λ _. inl (omega (arith, min-le_left (go_floor s n a d r) (2 ^ 64 - 1))))) }
 
-pub ready : (s ends starts : List ℕ) (n k count : ℕ) (j : (p : Prog) × Judgeable s ends starts n p k count × EndsForAReason p) → Ready s n j.0
-ready s ends starts n k count j = let e = j.1.number in let l = j.1.few in record { program = j.1.tables.program; reason = j.2; ways = (j.1.list, j.1.ways, omega arith) }
+  -- an answer other than small, where there are words enough
+  pub go_post : (o' : List ℕ) (x : Result Value Refusal) → (x ≢ Err Small) → go_floor s n a d r ≤ w → length a + r < 2 ^ 32 → GoSays s n f a d r o o' x → GoPost s n f a d r o o' w x
+  go_post o' x other l nodes says = record { says = says; theorems = theorems; small = (small, (λ z. absurd (other z))) }
+    where
+      small : (w < go_floor s n a d r) ⊎ (2 ^ 32 ≤ length a + r) → x ≡ Err Small
+      small (inl y) = absurd (omega arith)
+      small (inr y) = absurd (omega arith)
 
-module _ (s : List ℕ) (n : ℕ) (p : Prog) (h : Ready s n p) where
-  comes : (f : ℕ) (a : List ℕ) (d r : ℕ) (o : Outcome) → ComesTo s f a d r o → Comes s n f a d r o
-  comes f a d r o c = record { prog = p; ready = h; args = c.args; are = c.are; calls = c.calls p h.program }
+-- what is judged to have the reason, called, has no more room left than there was
+pub room_fits : (s ends starts : List ℕ) (n : ℕ) (v : Verdict) → VerdictSays s ends starts n (Ok v) → (f : ℕ) (a : List ℕ) (d r : ℕ) (o o' : List ℕ) (w : Called) → r < 2 ^ 32 → CalledSays s f a d r o o' (Ok w) → w.room < 2 ^ 32
+room_fits s ends starts n v x f a d r o o' w l y = let m = no_more_room x.0 f y.1.args d r y.0 w.room (y.1.calls x.0 x.1.tables.program) in omega arith
 
-  pub go_says : (f : ℕ) (a : List ℕ) (d r : ℕ) (o o' : List ℕ) (c : Called) → CalledSays s f a d r o o' c → GoSays s n f a d r o o' (answer_of c)
-  go_says f a d r o o' (called.Value k q) x = (x.0, comes f a d r _ x.1, x.2, x.3, x.4)
-  go_says f a d r o o' called.Full x = (comes f a d r _ x.0, x.1)
-  go_says f a d r o o' called.Deep x = (comes f a d r _ x.0, x.1)
-  go_says f a d r o o' called.BadCall x = (p, h, (λ g ts i e l. x.0 p g ts h.program i e l), x.1)
-  go_says f a d r o o' called.OutFull x = (x.0, x.1, comes f a d r _ x.2, x.3, x.4)
+-- the tables say the same with the starts of the functions alone
+started : (s ends starts : List ℕ) (p : Prog) (n : ℕ) → 64 ≤ length starts → Tables s p ends starts n → Tables s p ends (take n starts) (length (take n starts))
+started s ends starts p n r t =
+    let few = t.found.few in
+    subst (λ (k : ℕ). Tables s p ends (take n starts) k) (sym (length-take-le n starts (omega arith)))
+    (record {
+      program = t.program;
+      found = record {
+        functions = t.found.functions;
+        number = t.found.number;
+        few = t.found.few;
+        starting = λ f g e.
+            let below = nth_below p f e in
+            let number = t.found.number in
+            subst (λ (i : ℕ). StandsAt s g i) (sym (get_or-take n starts f 0 (omega arith))) (t.found.starting f g e);
+      };
+      ending = t.ending;
+    })
 
-  pub left_fits : (f : ℕ) (a : List ℕ) (d r : ℕ) (o o' : List ℕ) (c : Called) → r < 2 ^ 32 → CalledSays s f a d r o o' c → Left c
-  left_fits f a d r o o' (called.Value k q) l x = let m = no_more_room p f x.1.args d r x.0 q (x.1.calls p h.program) in omega arith
-  left_fits f a d r o o' called.Full l x = tt
-  left_fits f a d r o o' called.Deep l x = tt
-  left_fits f a d r o o' called.BadCall l x = tt
-  left_fits f a d r o o' called.OutFull l x = tt
-
-pub answer_not_small : (c : Called) → answer_of c ≡ Small → ⊥
-answer_not_small (called.Value k q) e = let z : ◌≡◌ {A = ℕ} 0 1 = cc in omega arith
-answer_not_small called.Full e = let z : ◌≡◌ {A = ℕ} 0 1 = cc in omega arith
-answer_not_small called.Deep e = let z : ◌≡◌ {A = ℕ} 0 1 = cc in omega arith
-answer_not_small called.BadCall e = let z : ◌≡◌ {A = ℕ} 0 1 = cc in omega arith
-answer_not_small called.OutFull e = let z : ◌≡◌ {A = ℕ} 0 1 = cc in omega arith
-
-pub unproved_not_small : Unproved ≡ Small → ⊥
-unproved_not_small e = let z : ◌≡◌ {A = ℕ} 0 1 = cc in omega arith
+-- what is judged to have the reason may be called
+pub judged : (s ends starts : List ℕ) (n : ℕ) (v : Verdict) → v.failing ≡ None → VerdictSays s ends starts n (Ok v) → 64 ≤ length starts → Judged s ends (take v.functions starts) (length (take v.functions starts))
+judged s ends starts n v e x r = record { prog = x.0; why = subst (λ (k : Option ℕ). Decided (call_graph x.0) x.1.list k) e x.2; tables = started s ends starts x.0 v.functions r x.1.tables }

@@ -1,4 +1,4 @@
 -- What the public calls promise.
-pub mod Exported
 pub mod Going
 pub mod Judging
+pub mod Numbers

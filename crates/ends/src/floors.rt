@@ -1,57 +1,17 @@
 ghost use Rattle.std.specs.Prelude.{◌≡◌, ◌+◌, ◌-◌, ◌*◌, ◌^◌, ◌<◌, ◌≤◌, min, true, ◌⊎◌, ◌↔◌};
 
+// What judging wants of any script, and so many for each byte of it and as many for each way.
 const WORDS: usize = 16384;
 
 const WORDS_EACH: usize = 64;
 
-const WORDS_NODE: usize = 4;
+// What a run wants besides, for each node and for each open call.
+pub(crate) const WORDS_NODE: usize = 4;
 
-const WORDS_CALL: usize = 4096;
-
-// Nodes are numbered by words.
-const NUMBERS: usize = 0x1_0000_0000;
-
-// Whether there are fewer work words than judging wants; no sum is made that could overflow.
-pub(crate) fn too_few(bytes: usize, ways: u32, words: usize) -> bool
-    ensures { (words < 16384 + (64 * bytes + 64 * ways)) ↔ (result ≡ true) }
-{
-    if words < WORDS {
-        return true;
-    }
-    let spare = (words - WORDS) / WORDS_EACH;
-    if spare < bytes {
-        return true;
-    }
-    spare - bytes < ways as usize
-}
-
-// Whether there are fewer work words than a run wants, or more nodes than can be numbered.
-pub(crate) fn too_small(
-    bytes: usize,
-    ways: u32,
-    args: usize,
-    depth: u32,
-    room: u32,
-    words: usize,
-) -> bool
-    ensures { ((words < (16384 + (64 * bytes + 64 * ways)) + (4 * (args + room) + 4096 * (depth + 1))) ⊎ (2 ^ 32 ≤ args + room)) ↔ (result ≡ true) }
-{
-    if args >= NUMBERS {
-        return true;
-    }
-    let nodes = args + room as usize;
-    if nodes >= NUMBERS {
-        return true;
-    }
-    let own = WORDS_NODE * nodes + WORDS_CALL * (depth as usize + 1);
-    if words < own {
-        return true;
-    }
-    too_few(bytes, ways, words - own)
-}
+pub(crate) const WORDS_CALL: usize = 4096;
 
 // The work words that judging a script of so many bytes wants, or the largest number where that is larger.
-pub fn pegsienna_judge_words(bytes: usize, ways: u32) -> usize
+pub fn judge_words(bytes: usize, ways: u32) -> usize
     ensures { result ≡ min (16384 + (64 * bytes + 64 * ways)) (2 ^ 64 - 1) }
 {
     bytes
@@ -60,15 +20,25 @@ pub fn pegsienna_judge_words(bytes: usize, ways: u32) -> usize
         .saturating_add(WORDS)
 }
 
-// The work words that a run wants: those of judging, four for each byte of the trees and each node of room, and 4,096 for each open call and one more.
-pub fn pegsienna_go_words(bytes: usize, ways: u32, args: usize, depth: u32, room: u32) -> usize
-    ensures { result ≡ min ((16384 + (64 * bytes + 64 * ways)) + (4 * (args + room) + 4096 * (depth + 1))) (2 ^ 64 - 1) }
-{
-    let nodes = args
-        .saturating_mul(WORDS_NODE)
-        .saturating_add(WORDS_NODE * room as usize);
-    let frames = WORDS_CALL * (depth as usize + 1);
-    pegsienna_judge_words(bytes, ways)
-        .saturating_add(nodes)
-        .saturating_add(frames)
+// What a run may have: so many ways of its script, calls open inside, and nodes made, in the words of the C interface. Calling's own `Limits` has no ways, and takes larger numbers: with these words it would ask more of its callers.
+#[derive(Clone, Copy, Debug, PartialEq)]
+pub struct Limits {
+    pub ways: u32,
+    pub depth: u32,
+    pub room: u32,
+}
+
+impl Limits {
+    // The work words that a run of a script of so many bytes wants: those of judging, four for each byte of the trees and each node of room, and 4,096 for each open call and one more.
+    pub fn words(self, bytes: usize, args: usize) -> usize
+        ensures { result ≡ min ((16384 + (64 * bytes + 64 * self.ways)) + (4 * (args + self.room) + 4096 * (self.depth + 1))) (2 ^ 64 - 1) }
+    {
+        let nodes = args
+            .saturating_mul(WORDS_NODE)
+            .saturating_add(WORDS_NODE * self.room as usize);
+        let frames = WORDS_CALL * (self.depth as usize + 1);
+        judge_words(bytes, self.ways)
+            .saturating_add(nodes)
+            .saturating_add(frames)
+    }
 }

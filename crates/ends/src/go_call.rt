@@ -1,70 +1,121 @@
-ghost use Rattle.std.specs.Prelude.{◌≡◌, ◌+◌, ◌*◌, ◌^◌, ◌<◌, ◌≤◌, length};
-ghost use Rattle.ends.specs.Going.{GoPost, Left, answer_of};
+ghost use Rattle.std.specs.Prelude.{◌≡◌, ◌≢◌, ◌+◌, ◌^◌, ◌<◌, ◌≤◌, length};
+ghost use Rattle.ends.specs.Going.{GoPost, GoSays, go_floor, refusal_of};
+ghost use Rattle.ends.specs.declared.go_call.Refusal.TheVariants.{Small, Unproved};
 
-use super::Ran;
-use super::floors::too_small;
-use calling::{Called, call};
-use judging::{Verdict, find_verdict};
+use super::floors::{Limits, WORDS_CALL, WORDS_NODE};
+use super::words::split_tables;
+use calling::call;
+use calling::error::CallError;
+use calling::script::Script;
+use judging::find_verdict;
+use reading::expressions::Expressions;
+use thiserror::Error;
 
-const STARTS: usize = 64;
+// Nodes are numbered by words.
+const NUMBERS: usize = 0x1_0000_0000;
 
-const WORDS_NODE: usize = 4;
+// A tree of so many bytes, and the room left: what calling gives, with the room as the word that the C interface takes.
+#[derive(Clone, Copy, Debug, PartialEq)]
+pub struct Value {
+    pub bytes: usize,
+    pub room: u32,
+}
 
-const WORDS_CALL: usize = 4096;
+// Why a call has no value.
+#[derive(Clone, Copy, Debug, PartialEq, Error)]
+pub enum Refusal {
+    #[error("full")]
+    Full,
+    #[error("deep")]
+    Deep,
+    #[error("unproved")]
+    Unproved,
+    #[error("bad call")]
+    BadCall,
+    #[error("out full")]
+    OutFull,
+    #[error("small")]
+    Small,
+}
 
-// The answer that a call came to.
-fn answer(called: Called) -> Ran
-    requires { Left called }
-    ensures { result ≡ answer_of called }
-{
-    match called {
-        Called::Value(k, left) => Ran::Value(k, left as u32),
-        Called::Full => Ran::Full,
-        Called::Deep => Ran::Deep,
-        Called::BadCall => Ran::BadCall,
-        Called::OutFull => Ran::OutFull,
+impl From<judging::Refusal> for Refusal {
+    ghost from_gives = { λ _ refusal. refusal ≡ Unproved };
+
+    fn from(_refusal: judging::Refusal) -> Refusal {
+        Refusal::Unproved
     }
+}
+
+impl From<CallError> for Refusal {
+    ghost from_gives = { λ e refusal. refusal ≡ refusal_of e };
+
+    fn from(e: CallError) -> Refusal {
+        match e {
+            CallError::Full => Refusal::Full,
+            CallError::Deep => Refusal::Deep,
+            CallError::BadCall => Refusal::BadCall,
+            CallError::OutFull => Refusal::OutFull,
+        }
+    }
+}
+
+// What `go` does where there are words enough.
+fn go_within(
+    program: &[u8],
+    limits: Limits,
+    function: usize,
+    args: &[u8],
+    out: &mut [u8],
+    work: &mut [u32],
+) -> Result<Value, Refusal>
+    requires numbered { length args.now + limits.room < 2 ^ 32 }
+    requires words { go_floor program.now limits.ways args.now limits.depth limits.room ≤ length work.old }
+    ensures says { GoSays program.now limits.ways function args.now limits.depth limits.room out.old out.new result }
+    ensures not_small { result ≢ Err Small }
+{
+    let (ends, starts, rest) = split_tables(work, program.len());
+    let nodes = args.len() + limits.room as usize;
+    let (memory, rest) = rest.split_at_mut(WORDS_NODE * nodes);
+    let (frames, rest) = rest.split_at_mut(WORDS_CALL * (limits.depth as usize + 1));
+    let verdict = find_verdict(program, limits.ways, ends, starts, rest)?;
+    if verdict.failing.is_some() {
+        return Err(Refusal::Unproved);
+    }
+    let expressions = Expressions {
+        bytes: program,
+        ends,
+    };
+    let script = Script {
+        expressions,
+        starts: &starts[..verdict.functions],
+    };
+    let within = calling::Limits {
+        depth: limits.depth as usize,
+        room: limits.room as usize,
+    };
+    let value = call(&script, function, args, within, out, memory, frames)?;
+    Ok(Value {
+        bytes: value.bytes,
+        room: value.room as u32,
+    })
 }
 
 // Judges a script and runs a function of it on trees, in lent memory. What runs is what was judged, and it ends for the reason alone.
 pub fn go(
     program: &[u8],
-    ways: u32,
+    limits: Limits,
     function: usize,
     args: &[u8],
-    depth: u32,
-    room: u32,
     out: &mut [u8],
     work: &mut [u32],
-) -> Ran
-    ensures { GoPost program.now ways function args.now depth room out.old out.new (length work.old) result }
+) -> Result<Value, Refusal>
+    ensures { GoPost program.now limits.ways function args.now limits.depth limits.room out.old out.new (length work.old) result }
 {
-    if too_small(program.len(), ways, args.len(), depth, room, work.len()) {
-        return Ran::Small;
+    if args.len() + limits.room as usize >= NUMBERS {
+        return Err(Refusal::Small);
     }
-    let (ends, rest) = work.split_at_mut(program.len());
-    let (starts, rest) = rest.split_at_mut(STARTS);
-    let (memory, rest) = rest.split_at_mut(WORDS_NODE * (args.len() + room as usize));
-    let (frames, rest) = rest.split_at_mut(WORDS_CALL * (depth as usize + 1));
-    match find_verdict(program, ways, ends, starts, rest) {
-        Verdict::Ends(functions, _) => {
-            let called = call(
-                program,
-                ends,
-                starts,
-                functions,
-                function,
-                args,
-                depth as usize,
-                room as usize,
-                out,
-                memory,
-                frames,
-            );
-            answer(called)
-        }
-        Verdict::NoReason(_, _) => Ran::Unproved,
-        Verdict::NoProgram => Ran::Unproved,
-        Verdict::Many => Ran::Unproved,
+    if work.len() < limits.words(program.len(), args.len()) {
+        return Err(Refusal::Small);
     }
+    go_within(program, limits, function, args, out, work)
 }

@@ -6,6 +6,7 @@ use mathlib.Core.Option.{some}
 use Prim.Native.Nat.{ℕ, zero, suc, ◌<◌, ◌≤◌}
 use native.Mathlib.Omega.{arith}
 use lib.ListN.{length, take, drop, length-take, take-append-drop}
+use Rattle.std.specs.Prelude.{Result, Ok, Err, ◌≢◌}
 use Rattle.sizechange.specs.Graph.{nth, Way1}
 use Rattle.sizechange.proofs.Ways.{one_number}
 use Rattle.lang.specs.Program.{Tree, Fun, Prog}
@@ -14,14 +15,15 @@ use Rattle.lang.specs.Steps.{EndsForAReason, WaysOf, call_graph}
 use Rattle.lang.specs.Bytes.{Program, bytes_of_tree, bytes_of_trees}
 use Rattle.lang.proofs.Reading.{one_program, one_list}
 use Rattle.lang.proofs.Rules.{one_outcome}
-use Rattle.ends.specs.declared.Judged.{Judged}
-use Rattle.ends.specs.declared.Judged.TheVariants.{Ends, NoReason, NoProgram, Many, Few}
-use Rattle.ends.specs.declared.Ran.{Ran}
-use Rattle.ends.specs.declared.Ran.TheVariants.{Value, Full, Deep, Unproved, BadCall, OutFull, Small}
-use Rattle.ends.specs.declared.RanC.{RanC}
+use Rattle.ends.specs.declared.judge_call.Judged.{Judged}
+use Rattle.ends.specs.declared.judge_call.Judged.TheVariants.{Ends, NoReason, NoProgram, Many, Few}
+use Rattle.ends.specs.declared.go_call.Refusal.{Refusal}
+use Rattle.ends.specs.declared.go_call.Refusal.TheVariants.{Full, Deep, Unproved, BadCall, OutFull, Small}
+use Rattle.ends.specs.declared.go_call.Value.{Value}
+use Rattle.ends.specs.declared.numbers.RanC.{RanC}
 use Rattle.ends.specs.Judging.{JudgedSays}
 use Rattle.ends.specs.Going.{Ready, Comes, GoSays}
-use Rattle.ends.specs.Exported.{judged_number, ran_numbers}
+use Rattle.ends.specs.Numbers.{judged_number, ran_numbers}
 use Rattle.exact.specs.Exact.{OneJudgement, OneRun, OneNumberEach}
 
 -- one program has one number of ways
@@ -61,11 +63,11 @@ one_judged s n Few NoProgram h k x y = absurd (h refl)
 one_judged s n Few Many h k x y = absurd (h refl)
 one_judged s n Few Few h k x y = absurd (h refl)
 
-few? : (a : Judged) → (a ≡ Few) ⊎ (a ≡ Few → ⊥)
-few? Ends = inr (λ e. let z : ◌≡◌ {A = ℕ} 0 1 = cc in omega arith)
-few? NoReason = inr (λ e. let z : ◌≡◌ {A = ℕ} 0 1 = cc in omega arith)
-few? NoProgram = inr (λ e. let z : ◌≡◌ {A = ℕ} 0 1 = cc in omega arith)
-few? Many = inr (λ e. let z : ◌≡◌ {A = ℕ} 0 1 = cc in omega arith)
+few? : (a : Judged) → (a ≡ Few) ⊎ (a ≢ Few)
+few? Ends = inr (λ e. cc)
+few? NoReason = inr (λ e. cc)
+few? NoProgram = inr (λ e. cc)
+few? Many = inr (λ e. cc)
 few? Few = inl refl
 
 pub one_judgement : OneJudgement
@@ -115,13 +117,13 @@ module _ (s : List ℕ) (n f : ℕ) (a : List ℕ) (d r : ℕ) where
   unready (inr (inr x)) p h = few_many s n p x.0 h.ways.0 x.1 h.program x.2 h.ways.1 x.3 h.ways.2 x.4
 
 -- the answer and what is in out after it
-data Answer (o : List ℕ) : Case → Ran → List ℕ → Type 0 where
-  is_unproved : {o' : List ℕ} → o' ≡ o → Answer o unproved Unproved o'
-  is_bad : {o' : List ℕ} → o' ≡ o → Answer o bad BadCall o'
-  is_full : {o' : List ℕ} → o' ≡ o → Answer o (came full) Full o'
-  is_deep : {o' : List ℕ} → o' ≡ o → Answer o (came deep) Deep o'
-  is_value : {t : Tree} {q k : ℕ} {o' : List ℕ} → k ≡ length (bytes_of_tree t) → length o' ≡ length o → take k o' ≡ bytes_of_tree t → drop k o' ≡ drop k o → Answer o (came (val t q)) (Value k q) o'
-  is_out : {t : Tree} {q : ℕ} {o' : List ℕ} → length o < length (bytes_of_tree t) → o' ≡ o → Answer o (came (val t q)) OutFull o'
+data Answer (o : List ℕ) : Case → Result Value Refusal → List ℕ → Type 0 where
+  is_unproved : {o' : List ℕ} → o' ≡ o → Answer o unproved (Err Unproved) o'
+  is_bad : {o' : List ℕ} → o' ≡ o → Answer o bad (Err BadCall) o'
+  is_full : {o' : List ℕ} → o' ≡ o → Answer o (came full) (Err Full) o'
+  is_deep : {o' : List ℕ} → o' ≡ o → Answer o (came deep) (Err Deep) o'
+  is_value : {t : Tree} {q k : ℕ} {o' : List ℕ} → k ≡ length (bytes_of_tree t) → length o' ≡ length o → take k o' ≡ bytes_of_tree t → drop k o' ≡ drop k o → Answer o (came (val t q)) (Ok (record { bytes = k; room = q })) o'
+  is_out : {t : Tree} {q : ℕ} {o' : List ℕ} → length o < length (bytes_of_tree t) → o' ≡ o → Answer o (came (val t q)) (Err OutFull) o'
 
 value_fits : (o o' b : List ℕ) (k : ℕ) → k ≡ length b → length o' ≡ length o → take k o' ≡ b → length o < length b → ⊥
 value_fits o o' b k e l t m =
@@ -135,7 +137,7 @@ same_out o o₁ o₂ b k t₁ d₁ t₂ d₂ =
     let y = take-append-drop k o₂ in
     cc
 
-one_answer : {o o₁ o₂ : List ℕ} {c : Case} {x y : Ran} → Answer o c x o₁ → Answer o c y o₂ → (x ≡ y) × (o₁ ≡ o₂)
+one_answer : {o o₁ o₂ : List ℕ} {c : Case} {x y : Result Value Refusal} → Answer o c x o₁ → Answer o c y o₂ → (x ≡ y) × (o₁ ≡ o₂)
 one_answer (is_unproved e) (is_unproved h) = (refl, e ∙ sym h)
 one_answer (is_bad e) (is_bad h) = (refl, e ∙ sym h)
 one_answer (is_full e) (is_full h) = (refl, e ∙ sym h)
@@ -147,26 +149,26 @@ one_answer {o} {o₁} {o₂} (is_value {t = t} {k = k} e l u v) (is_out m h) = a
 one_answer {o} {o₁} {o₂} (is_out m h) (is_value {t = t} {k = k} e l u v) = absurd (value_fits o o₂ (bytes_of_tree t) k e l u m)
 one_answer (is_out m e) (is_out m' h) = (refl, e ∙ sym h)
 
-sorted : (s : List ℕ) (n f : ℕ) (a : List ℕ) (d r : ℕ) (o o' : List ℕ) (x : Ran) → (x ≡ Small → ⊥) → length o' ≡ length o → GoSays s n f a d r o o' x → (c : Case) × Sort s n f a d r c × Answer o c x o'
-sorted s n f a d r o o' (Value k q) h l x = (came (val x.0 q), x.1, is_value x.2 l x.3 x.4)
-sorted s n f a d r o o' Full h l x = (came full, x.0, is_full x.1)
-sorted s n f a d r o o' Deep h l x = (came deep, x.0, is_deep x.1)
-sorted s n f a d r o o' Unproved h l x = (unproved, unready s n f a d r x.0, is_unproved x.1)
-sorted s n f a d r o o' BadCall h l x = (bad, (x.0, x.1, x.2), is_bad x.3)
-sorted s n f a d r o o' OutFull h l x = (came (val x.0 x.1), x.2, is_out x.3 x.4)
-sorted s n f a d r o o' Small h l x = absurd (h refl)
+sorted : (s : List ℕ) (n f : ℕ) (a : List ℕ) (d r : ℕ) (o o' : List ℕ) (x : Result Value Refusal) → (x ≡ Err Small → ⊥) → length o' ≡ length o → GoSays s n f a d r o o' x → (c : Case) × Sort s n f a d r c × Answer o c x o'
+sorted s n f a d r o o' (Ok v) h l x = (came (val x.0 v.room), x.1, is_value x.2 l x.3 x.4)
+sorted s n f a d r o o' (Err Full) h l x = (came full, x.0, is_full x.1)
+sorted s n f a d r o o' (Err Deep) h l x = (came deep, x.0, is_deep x.1)
+sorted s n f a d r o o' (Err Unproved) h l x = (unproved, unready s n f a d r x.0, is_unproved x.1)
+sorted s n f a d r o o' (Err BadCall) h l x = (bad, (x.0, x.1, x.2), is_bad x.3)
+sorted s n f a d r o o' (Err OutFull) h l x = (came (val x.0 x.1), x.2, is_out x.3 x.4)
+sorted s n f a d r o o' (Err Small) h l x = absurd (h refl)
 
-small? : (x : Ran) → (x ≡ Small) ⊎ (x ≡ Small → ⊥)
-small? (Value k q) = inr (λ e. let z : ◌≡◌ {A = ℕ} 0 1 = cc in omega arith)
-small? Full = inr (λ e. let z : ◌≡◌ {A = ℕ} 0 1 = cc in omega arith)
-small? Deep = inr (λ e. let z : ◌≡◌ {A = ℕ} 0 1 = cc in omega arith)
-small? Unproved = inr (λ e. let z : ◌≡◌ {A = ℕ} 0 1 = cc in omega arith)
-small? BadCall = inr (λ e. let z : ◌≡◌ {A = ℕ} 0 1 = cc in omega arith)
-small? OutFull = inr (λ e. let z : ◌≡◌ {A = ℕ} 0 1 = cc in omega arith)
-small? Small = inl refl
+small? : (x : Result Value Refusal) → (x ≡ Err Small) ⊎ (x ≢ Err Small)
+small? (Ok v) = inr (λ e. cc)
+small? (Err Full) = inr (λ e. cc)
+small? (Err Deep) = inr (λ e. cc)
+small? (Err Unproved) = inr (λ e. cc)
+small? (Err BadCall) = inr (λ e. cc)
+small? (Err OutFull) = inr (λ e. cc)
+small? (Err Small) = inl refl
 
-untouched : (s : List ℕ) (n f : ℕ) (a : List ℕ) (d r : ℕ) (o o' : List ℕ) (x : Ran) → x ≡ Small → GoSays s n f a d r o o' x → o' ≡ o
-untouched s n f a d r o o' x e says = subst (λ (y : Ran). GoSays s n f a d r o o' y) e says
+untouched : (s : List ℕ) (n f : ℕ) (a : List ℕ) (d r : ℕ) (o o' : List ℕ) (x : Result Value Refusal) → x ≡ Err Small → GoSays s n f a d r o o' x → o' ≡ o
+untouched s n f a d r o o' x e says = subst (λ (y : Result Value Refusal). GoSays s n f a d r o o' y) e says
 
 pub one_run : OneRun
 one_run s n f a d r o o₁ o₂ w x y l₁ l₂ p q = elim (small? x) [
@@ -180,27 +182,27 @@ one_run s n f a d r o o₁ o₂ w x y l₁ l₂ p q = elim (small? x) [
 ]
 
 -- back from the numbers
-answer_of : RanC → Ran
+answer_of : RanC → Result Value Refusal
 answer_of r = by r.answer
   where
-    by : ℕ → Ran
-    by zero = Value r.bytes r.room
-    by (suc zero) = Full
-    by (suc (suc zero)) = Deep
-    by (suc (suc (suc zero))) = Unproved
-    by (suc (suc (suc (suc zero)))) = BadCall
-    by (suc (suc (suc (suc (suc zero))))) = OutFull
-    by (suc (suc (suc (suc (suc (suc n)))))) = Small
+    by : ℕ → Result Value Refusal
+    by zero = Ok (record { bytes = r.bytes; room = r.room })
+    by (suc zero) = Err Full
+    by (suc (suc zero)) = Err Deep
+    by (suc (suc (suc zero))) = Err Unproved
+    by (suc (suc (suc (suc zero)))) = Err BadCall
+    by (suc (suc (suc (suc (suc zero))))) = Err OutFull
+    by (suc (suc (suc (suc (suc (suc n)))))) = Err Small
 
-back : (x : Ran) → answer_of (ran_numbers x) ≡ x
+back : (x : Result Value Refusal) → answer_of (ran_numbers x) ≡ x
 unfolding answer_of
-back (Value k q) = refl
-back Full = refl
-back Deep = refl
-back Unproved = refl
-back BadCall = refl
-back OutFull = refl
-back Small = refl
+back (Ok v) = refl
+back (Err Full) = refl
+back (Err Deep) = refl
+back (Err Unproved) = refl
+back (Err BadCall) = refl
+back (Err OutFull) = refl
+back (Err Small) = refl
 
 pub one_number_each : OneNumberEach
 one_number_each x y e = sym (back x) ∙ (ap answer_of e ∙ back y)

@@ -1,3 +1,3 @@
 -- Size-change graphs as bits: two words of 64 bits for the arcs between eight places.
-pub mod Bits
 pub mod Words
+pub mod How

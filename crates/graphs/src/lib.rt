@@ -1,16 +1,14 @@
 //! Size-change graphs between eight places, in two words of 64 bits.
 #![tactic(auto)]
 
-ghost use Rattle.std.specs.Prelude.{◌≡◌, ℕ, ◌+◌, ◌*◌, ◌^◌, ◌<◌, ◌≤◌, min, List, [], ◌∷◌, ◌++◌, Decides};
-ghost use Rattle.graphs.specs.Bits.{bit};
+ghost use Rattle.std.specs.Prelude.{◌≡◌, ℕ, ◌+◌, ◌*◌, ◌<◌, min, List, [], ◌∷◌, ◌++◌, Decides};
+ghost use Rattle.std.specs.Int.{bit_at};
+ghost use Rattle.graphs.specs.How.{how_of};
 ghost use Rattle.graphs.specs.Words.{Through, Words, places};
 ghost use Rattle.sizechange.specs.Graph.{Arc, Idempotent, compose, leads};
-ghost use Rattle.sizechange.specs.Theorems.{FineArc};
 
 /// Places that a graph leads between.
 pub const PLACES: u32 = 8;
-/// How an arc leads to a part.
-pub const PART: u32 = 2;
 
 // The arcs from the first place, those to the first place, and those from each place to itself.
 const ROW: u64 = 0xff;
@@ -19,8 +17,15 @@ const COLUMN: u64 = 0x0101_0101_0101_0101;
 
 const DIAGONAL: u64 = 0x8040_2010_0804_0201;
 
+/// What an arc leads to: the same, or a part of it.
+#[derive(Clone, Copy, Debug, PartialEq)]
+pub enum How {
+    Same,
+    Part,
+}
+
 /// A size-change graph: bit `PLACES * i + j` says that place i leads to place j, and in `part` that it leads to a part.
-#[derive(Clone, Copy)]
+#[derive(Clone, Copy, Debug, PartialEq)]
 pub struct Graph {
     pub any: u64,
     pub part: u64,
@@ -29,7 +34,7 @@ pub struct Graph {
 /// From i to k in x, and on from k to j in y.
 fn through(x: u64, y: u64, k: u32) -> u64
     requires { k < places }
-    ensures { (i j : ℕ) → i < places → j < places → bit result (places * i + j) ≡ min (bit x (places * i + k)) (bit y (places * k + j)) }
+    ensures { (i j : ℕ) → i < places → j < places → bit_at result (places * i + j) ≡ min (bit_at x (places * i + k)) (bit_at y (places * k + j)) }
 {
     ((x >> k) & COLUMN) * ((y >> (PLACES * k)) & ROW)
 }
@@ -53,13 +58,17 @@ impl Graph {
         Graph { any: 0, part: 0 }
     }
 
-    /// With one arc more; `how` is 1 for the same and 2 for a part.
-    pub fn with_arc(self, from: u32, to: u32, how: u32) -> Graph
-        requires { FineArc places (record { from = from; to = to; how = how }) }
-        ensures { (as₁ : List Arc) → Words self as₁ → Words result (as₁ ++ record { from = from; to = to; how = how } ∷ []) }
+    /// With one arc more.
+    pub fn with_arc(self, from: u32, to: u32, how: How) -> Graph
+        requires from { from < places }
+        requires to { to < places }
+        ensures { (as₁ : List Arc) → Words self as₁ → Words result (as₁ ++ record { from = from; to = to; how = how_of how } ∷ []) }
     {
         let arc = 1u64 << (PLACES * from + to);
-        let part = if how == PART { arc } else { 0 };
+        let part = match how {
+            How::Same => 0,
+            How::Part => arc,
+        };
         Graph {
             any: self.any | arc,
             part: self.part | part,
@@ -80,8 +89,7 @@ impl Graph {
     pub fn is_idempotent(self) -> bool
         ensures { (as₁ : List Arc) → Words self as₁ → Decides result (Idempotent as₁) }
     {
-        let twice = self.then(self);
-        twice.any == self.any && twice.part == self.part
+        self.then(self) == self
     }
 
     /// Some place becomes a part of itself.

@@ -1,54 +1,85 @@
-// What the programs read: files and numbers, within limits, with messages that say what is wrong.
+// What the programs read, within limits, and how they end: with a message that says what is wrong.
 #![tactic(auto)]
 
-ghost use Rattle.std.specs.Prelude.{◌≤◌, length, IfOk};
+ghost use Rattle.std.specs.Prelude.{◌≡◌, ◌<◌, ◌≤◌, ◌↔◌, length, vec_len, IfOk, IfSome, IsNone, IsOk, MatchOption};
+ghost use Rattle.std.specs.Process.{exit_status};
 
 use anyhow::anyhow;
+use std::alloc::Global;
 use std::fs::File;
+use std::io;
 use std::io::Read;
+use std::process::ExitCode;
 
-// Reads as much as fits, and says how much that was.
-pub fn read_up_to<R: Read>(from: &mut R, buf: &mut [u8]) -> anyhow::Result<usize>
-    ensures { IfOk result (λ n. n ≤ length buf.old) }
+// The longest script that the programs take, in bytes.
+pub const MAX_SCRIPT: usize = 512;
+
+// The most ways that they allow a script.
+pub const MAX_WAYS: u32 = 4096;
+
+// All bytes that a reader has left, where they are at most so many. One more is read, which shows that there are more.
+pub fn read_within<R: Read + Drop>(
+    alloc: Global,
+    from: R,
+    most: usize,
+) -> io::Result<Option<Vec<u8>>>
+    ensures within { IfOk result (λ read. IfSome read (λ bytes. vec_len bytes ≤ most)) }
+    ensures honest { IfOk result (λ read. IfSome (R.remaining from) (λ xs. MatchOption read (most < length xs) (λ bytes. bytes.items ≡ xs))) }
 {
-    let mut n = 0;
-    for _i in 0..buf.len() {
-        if n >= buf.len() {
-            break;
-        }
-        let got = from.read(&mut buf[n..])?;
-        if got == 0 {
-            break;
-        }
-        n += got;
+    let mut bytes = Vec::new(alloc);
+    from.take((most as u64).saturating_add(1))
+        .read_to_end(&mut bytes)?;
+    if bytes.len() > most {
+        return Ok(None);
     }
-    Ok(n)
+    Ok(Some(bytes))
 }
 
-// A file's bytes, as many as fit.
-pub fn read_file(rt: &HostRuntime, path: &str, buf: &mut [u8]) -> anyhow::Result<usize>
-    ensures { IfOk result (λ n. n ≤ length buf.old) }
+// A script's bytes out of its file.
+pub fn read_script(rt: &HostRuntime, path: &str) -> anyhow::Result<Vec<u8>>
+    ensures { IfOk result (λ script. vec_len script ≤ MAX_SCRIPT) }
 {
-    match File::open(rt, path) {
-        Ok(mut file) => read_up_to(&mut file, buf),
-        Err(e) => Err(anyhow!(format!(in rt.alloc(); "cannot open {path}: {e}")?)),
-    }
+    let file = File::open(rt, path).map_err(|e| anyhow!("cannot open {path}: {e}"))?;
+    read_within(rt.alloc(), file, MAX_SCRIPT)?.ok_or_else(|| anyhow!(
+        "{path} is longer than {MAX_SCRIPT} bytes"
+    ))
 }
 
 // A number of at most so much, or the largest where none is given.
-pub fn number(rt: &HostRuntime, what: &str, text: Option<String>, most: u32) -> anyhow::Result<u32>
-    ensures { IfOk result (λ n. n ≤ most) }
+pub fn number(what: &str, text: Option<String>, most: u32) -> anyhow::Result<u32>
+    ensures within { IfOk result (λ n. n ≤ most) }
+    ensures none { IsNone text → result ≡ Ok most }
 {
     let Some(text) = text else {
         return Ok(most);
     };
-    match text.as_str().parse::<u32>() {
-        Ok(n) => {
-            if n <= most {
-                return Ok(n);
-            }
-        }
-        Err(_) => {}
+    match text.parse::<u32>() {
+        Ok(n) if n <= most => Ok(n),
+        _ => Err(anyhow!("the {what} is to be at most {most}, and is {text:?}")),
     }
-    Err(anyhow!(format!(in rt.alloc(); "the {what} is to be at most {most}, and is {text:?}")?))
+}
+
+// Says what went wrong in one line of the program's own, where a `main` that returned the error would say `Error:`.
+pub fn finish(rt: &HostRuntime, program: &str, outcome: anyhow::Result<()>) -> ExitCode
+    ensures { (exit_status result ≡ 0) ↔ IsOk outcome }
+{
+    let Err(e) = outcome else {
+        return ExitCode::SUCCESS;
+    };
+    let _said = eprintln!(rt; "{program}: {e}");
+    ExitCode::FAILURE
+}
+
+#[cfg(test)]
+mod tests {
+    use super::*;
+    use std::test::Fail;
+
+    #[test]
+    fn reads_as_much_as_it_may(rt: HostRuntime) -> Result<(), Fail> {
+        let fits = read_within(rt.alloc(), &b"three"[..], 5)?.ok_or("more than there is")?;
+        assert!(rt; fits.as_slice() == b"three".as_slice());
+        assert!(rt; read_within(rt.alloc(), &b"three"[..], 4)?.is_none());
+        Ok(())
+    }
 }

@@ -6,71 +6,51 @@ ghost use Rattle.lang.specs.Laws.{Laws};
 ghost use Rattle.lang.specs.Theorems.{AlwaysEnds, HasAValue, EveryExpressionEnds, OneOutcome, OneDerivation, Finite, OneProgram, OneList, OneCircle};
 
 // A program with the reason ends, whatever it is called with, whatever depth and room it has.
-pub fn always_ends() -> u8
+pub fn always_ends()
     ensures { AlwaysEnds }
-{
-    0
-}
+{}
 
 // With enough depth and room it gives a value, and with more the same.
-pub fn has_a_value() -> u8
+pub fn has_a_value()
     ensures { HasAValue }
-{
-    0
-}
+{}
 
 // Every well-formed expression has an outcome, in every environment, mode, depth and room.
-pub fn every_expression_ends() -> u8
+pub fn every_expression_ends()
     ensures { EveryExpressionEnds }
-{
-    0
-}
+{}
 
 // A call does one thing at most; of an expression, the number of rules is one too.
-pub fn one_outcome() -> u8
+pub fn one_outcome()
     ensures { OneOutcome × OneDerivation }
-{
-    0
-}
+{}
 
 // The ways along a program's calls are finitely many.
-pub fn finite() -> u8
+pub fn finite()
     ensures { Finite }
-{
-    0
-}
+{}
 
 // The worked facts about Ackermann's function.
-pub fn ackermann() -> u8
+pub fn ackermann()
     ensures { Worked }
-{
-    0
-}
+{}
 
 // Bytes are the writing of at most one program.
-pub fn one_program() -> u8
+pub fn one_program()
     ensures { OneProgram }
-{
-    0
-}
+{}
 
 // Bytes are the writing of at most one list of trees.
-pub fn one_list() -> u8
+pub fn one_list()
     ensures { OneList }
-{
-    0
-}
+{}
 
 // The laws that hold the definitions to what is said of them.
-pub fn laws_hold() -> u8
+pub fn laws_hold()
     ensures { Laws }
-{
-    0
-}
+{}
 
 // A program has one first circle at most.
-pub fn one_circle() -> u8
+pub fn one_circle()
     ensures { OneCircle }
-{
-    0
-}
+{}

@@ -14,13 +14,16 @@ new_at xs j = slice_index xs (2 * j) % 4
 unfoldable pub word_at : List ℕ → ℕ → ℕ
 word_at xs j = slice_index xs (2 * j + 1)
 
-pub record Noted (xs : List ℕ) (j outer new word : ℕ) : Type 0 where
+pub record Noted (xs : List ℕ) (j outer new : ℕ) (origin : Option From) : Type 0 where
   pub outer_is : outer_at xs j ≡ outer
   pub new_is : new_at xs j ≡ new
-  pub word_is : word_at xs j ≡ word
+  pub origin_is : from_of (word_at xs j) ≡ origin
 
-abbrev pub SameNote : List ℕ → List ℕ → ℕ → Type 0
-SameNote xs ys j = Noted ys j (outer_at xs j) (new_at xs j) (word_at xs j)
+-- the note at a place is the same in ys as in xs
+pub record SameNote (xs ys : List ℕ) (j : ℕ) : Type 0 where
+  pub outer_is : outer_at ys j ≡ outer_at xs j
+  pub new_is : new_at ys j ≡ new_at xs j
+  pub word_is : word_at ys j ≡ word_at xs j
 
 -- n new variables of one origin
 abbrev pub newer : ℕ → Option From → List (Option From) → List (Option From)

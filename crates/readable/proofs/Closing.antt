@@ -1,6 +1,7 @@
 -- What a parser has read so far can always go on to a text that stands for a tree.
 use Rattle.std.proofs.Common.{◌≡◌, ℕ, List, [], ◌∷◌, ◌++◌, Some, None, Option, refl, ap}
 use Rattle.lang.specs.Bytes.{bytes_of_tree}
+use Rattle.lent.specs.Output.{written}
 use Rattle.readable.specs.declared.tokens.Token.{Token}
 use Rattle.readable.specs.declared.tokens.Token.TheVariants.{Dot, Close, End, Number}
 use Rattle.readable.specs.declared.parsing.Symbol.{Symbol}
@@ -9,7 +10,7 @@ use Rattle.readable.specs.declared.parsing.Parser.{Parser}
 use Rattle.readable.specs.Syntax.{dot, number, empty, item, tree_of}
 use Rattle.readable.specs.Text.{before, lex}
 use Rattle.readable.specs.Machine.{Language, AnItem, AClose, TheItems, wants, Wrote, InText}
-use Rattle.readable.specs.Parsers.{stack, written, text_to_come, Accepts, Waits}
+use Rattle.readable.specs.Parsers.{text_to_come, Accepts, WaitsAt, Waits}
 
 -- some tokens and bytes in a language
 pub record Inhabited (L : Language Token) : Type 0 where
@@ -101,6 +102,9 @@ accepting (Rest ∷ σ) a v =
 in_writing : (w : List ℕ) (L : Language Token) (n : Option ℕ) → SomeText n L → SomeText n (Wrote w L)
 in_writing w L n s = (s.0, w ++ s.1, record { read = s.2.read; lexed = s.2.lexed; after = record { bytes_after = s.1; split = refl; after = s.2.after } })
 
-pub goes_on_somehow : (n : Option ℕ) (p : Parser) → Waits n p → (x bs : List ℕ) × text_to_come n p x bs
-goes_on_somehow None p h = let i = closing (stack p) in in_writing (written p) (wants (stack p)) None (i.text, i.bytes, record { read = i.read; lexed = i.lexed; after = i.inside })
-goes_on_somehow (Some v) p h = in_writing (written p) (wants (stack p)) (Some v) (accepting (stack p) h v)
+going_on : (n : Option ℕ) (σ : List Symbol) → WaitsAt n σ → SomeText n (wants σ)
+going_on None σ h = let i = closing σ in (i.text, i.bytes, record { read = i.read; lexed = i.lexed; after = i.inside })
+going_on (Some v) σ h = accepting σ h v
+
+pub goes_on_somehow : (p : Parser) → Waits p → (x bs : List ℕ) × text_to_come p x bs
+goes_on_somehow p h = in_writing (written p.out.now) (wants p.stack.now.items) p.number (going_on p.number p.stack.now.items h)

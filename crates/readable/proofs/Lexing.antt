@@ -5,7 +5,7 @@ use Rattle.readable.specs.declared.tokens.Token.TheVariants.{Number}
 use Rattle.readable.specs.declared.tokens.Kind.{Kind}
 use Rattle.readable.specs.declared.tokens.Kind.TheVariants.{Space, Digit, Mark, Other}
 use Rattle.readable.specs.Text.{kind, more_digits, before, lex_byte, lex}
-use Rattle.readable.specs.Machine.{Language, behind, Same, Never, InText}
+use Rattle.readable.specs.Machine.{Language, behind, Same, InText}
 
 pub in_same : (n : Option ℕ) {L M : Language Token} → Same L M → Same (InText n L) (InText n M)
 in_same n s = record {
@@ -25,7 +25,7 @@ same_lex n m L f g e = record {
 }
 
 before_some : (k : Token) (o : Option (List Token)) (ks : List Token) → before k o ≡ Some ks → (hs : List Token) × (o ≡ Some hs) × (ks ≡ k ∷ hs)
-before_some k None ks e = let z : ◌≡◌ {A = ℕ} 0 1 = cc in absurd (omega arith)
+before_some k None ks e = absurd (cc)
 before_some k (Some hs) ks e = (hs, refl, cc)
 
 -- texts with a token more in front
@@ -45,9 +45,6 @@ space_lex c L e = same_lex None None L (λ x. x) (λ x. c ∷ x) (λ x. sym (lex
 
 pub mark_lex : (c : ℕ) (k : Token) (L : Language Token) → kind c ≡ Mark k → Same (InText None (behind k L)) (behind c (InText None L))
 mark_lex c k L e = more_lex None None k L (λ x. x) (λ x. c ∷ x) (λ x. lex_is None c (Mark k) e x)
-
-pub other_lex : (n : Option ℕ) (c : ℕ) (L : Language Token) → kind c ≡ Other → Never (behind c (InText n L))
-other_lex n c L e x bs i = let h : None ≡ Some i.read = sym (lex_is n c Other e x) ∙ i.lexed in let z : ◌≡◌ {A = ℕ} 0 1 = cc in omega arith
 
 -- a number that ends before the byte c
 pub number_ends : (v : ℕ) (k : Kind) → ((d : ℕ) → k ≡ Digit d → ⊥) → (rest : Option ℕ → Option (List Token)) → lex_byte k (Some v) rest ≡ before (Number v) (lex_byte k None rest)
@@ -70,7 +67,7 @@ numbered_byte : (k : Kind) (v : ℕ) (rest : Option ℕ → Option (List Token))
 numbered_byte Space v rest on ks e = numbered_before v (rest None) ks e
 numbered_byte (Mark k) v rest on ks e = numbered_before v (before k (rest None)) ks e
 numbered_byte (Digit d) v rest on ks e = let r = on (10 * v + d) ks e in (r.0, r.1, r.2, omega (arith, r.3))
-numbered_byte Other v rest on ks e = let z : ◌≡◌ {A = ℕ} 0 1 = cc in absurd (omega arith)
+numbered_byte Other v rest on ks e = absurd (cc)
 
 pub numbered : (v : ℕ) (x : List ℕ) (ks : List Token) → lex (Some v) x ≡ Some ks → Numbered v ks
 numbered v [] ks e = numbered_before v (Some []) ks e

@@ -1,5 +1,4 @@
 pub mod Moves
-pub mod Symbols
 pub mod Numbers
 pub mod Turns
 pub mod Lexing

@@ -1,22 +1,21 @@
 -- What a parser's steps along a text come to.
-use Rattle.std.proofs.Common.{◌≡◌, ℕ, ◌<◌, ◌≤◌, List, [], ◌∷◌, length, Some, None, Option, sym, refl, ap, ◌∙◌, subst, append-nil, arith}
+use Rattle.std.proofs.Common.{◌≡◌, ℕ, ◌≤◌, List, [], ◌∷◌, length, Some, None, Option, sym, refl, ap, ◌∙◌, subst, append-nil, arith}
+use Rattle.lent.specs.Output.{written}
 use Rattle.readable.specs.declared.tokens.Token.{Token}
 use Rattle.readable.specs.declared.tokens.Token.TheVariants.{Number}
 use Rattle.readable.specs.declared.tokens.Kind.TheVariants.{Space, Digit, Mark}
 use Rattle.readable.specs.declared.parsing.Symbol.{Symbol}
 use Rattle.readable.specs.declared.parsing.Symbol.TheVariants.{Item, First, Second, Shut, Rest}
 use Rattle.readable.specs.declared.parsing.Parser.{Parser}
-use Rattle.readable.specs.declared.parsing.Fault.{Fault}
-use Rattle.readable.specs.declared.parsing.Fault.TheVariants.{At, Full}
+use Rattle.readable.specs.declared.parsing.Stop.{Stop}
+use Rattle.readable.specs.declared.parsing.Stop.TheVariants.{Bad, Full}
 use Rattle.readable.specs.Syntax.{Syntax, dot, number, pair, list, Items, empty, item, tokens, tokens_all}
-use Rattle.readable.specs.Text.{kind}
+use Rattle.readable.specs.Text.{kind, more_digits}
 use Rattle.readable.specs.Machine.{Language, wants, behind, Same, InText}
-use Rattle.readable.specs.Parsers.{stack, written, to_come, text_to_come, flushed, Kept, Moved, Flushed, Stepped, Ended, Stopped, StoppedAtEnd}
+use Rattle.readable.specs.Parsers.{to_come, text_to_come, flushed, high_with, size, Kept, Moved, Flushed, Stepped, Ended, Stopped, StoppedAtEnd}
 use Rattle.readable.proofs.Moves.{same_trans, same_behind}
-use Rattle.readable.proofs.Lexing.{in_same, space_lex, mark_lex, number_lex, number_end, number_at_end}
-use Rattle.std.proofs.lemmas.List.{nil_from_length}
-use Rattle.readable.proofs.Symbols.{length_symbols}
-use Rattle.readable.proofs.Turns.{same_refl, stopped_as}
+use Rattle.readable.proofs.Lexing.{in_same, digit_lex, space_lex, mark_lex, number_lex, number_end, number_at_end}
+use Rattle.readable.proofs.Turns.{same_refl, stopped_as, kept_trans}
 
 -- a byte that is no digit ends a number
 flush_lex : (n : Option ℕ) (c : ℕ) (L : Language Token) → ((d : ℕ) → kind c ≡ Digit d → ⊥) → Same (behind c (InText None (flushed n L))) (behind c (InText n L))
@@ -24,56 +23,73 @@ flush_lex None c L other = same_refl (behind c (InText None L))
 flush_lex (Some v) c L other = number_lex v c L other
 
 -- tokens at which the parser stops, in a text
-stopped_text : (f : Fault) (place size : ℕ) (L : Language Token) → Stopped f place size L → Stopped f place size (InText None L)
-stopped_text (At q) place size L h = (h.0, λ x bs i. h.1 i.read bs i.after)
-stopped_text Full place size L h = λ x bs i. h i.read bs i.after
+stopped_text : (stop : Stop) (n : ℕ) (L : Language Token) → Stopped stop n L → Stopped stop n (InText None L)
+stopped_text Bad n L h = λ x bs i. h i.read bs i.after
+stopped_text Full n L h = λ x bs i. h i.read bs i.after
 
-stopped_behind : {A : Type 0} (f : Fault) (place size : ℕ) (c : A) (L : Language A) → Stopped f place size L → Stopped f place size (behind c L)
-stopped_behind (At q) place size c L h = (h.0, λ x bs i. h.1 (c ∷ x) bs i)
-stopped_behind Full place size c L h = λ x bs i. h (c ∷ x) bs i
+stopped_behind : {A : Type 0} (stop : Stop) (n : ℕ) (c : A) (L : Language A) → Stopped stop n L → Stopped stop n (behind c L)
+stopped_behind Bad n c L h = λ x bs i. h (c ∷ x) bs i
+stopped_behind Full n c L h = λ x bs i. h (c ∷ x) bs i
 
-pub kept_trans : (p q r : Parser) → Kept p q → Kept q r → Kept p r
-kept_trans p q r k l = record { out_same = l.out_same ∙ k.out_same; stack_long = l.stack_long ∙ k.stack_long; out_long = l.out_long ∙ k.out_long; within = l.within }
+-- a parser whose digits are taken
+abbrev pub without : Parser → Parser
+without p = record { stack = p.stack; out = p.out; number = None }
 
-module _ (n : Option ℕ) (p : Parser) (c : ℕ) where
+pub none_flushed : (p : Parser) → p.number ≡ None → Flushed p (without p)
+none_flushed p is = record {
+  kept = record { out_same = refl; memory_same = refl; size_same = refl; capacity_same = refl };
+  none = refl;
+  higher = subst (λ (n : Option ℕ). length p.stack.now.items ≤ high_with n (length p.stack.now.items)) (sym is) (omega arith);
+  same = subst (λ (n : Option ℕ). Same (to_come p) (flushed n (to_come p))) (sym is) (same_refl (to_come p));
+}
+
+-- the memory of a parser with another number
+same_kept : (p p' : Parser) → Kept p p' → Kept p (without p')
+same_kept p p' k = record { out_same = k.out_same; memory_same = k.memory_same; size_same = k.size_same; capacity_same = k.capacity_same }
+
+module _ (p : Parser) (c : ℕ) where
   space_is : kind c ≡ Space → (d : ℕ) → kind c ≡ Digit d → ⊥
-  space_is e d f = let z : ◌≡◌ {A = ℕ} 0 1 = cc in omega arith
+  space_is e d f = cc
 
   mark_is : (k : Token) → kind c ≡ Mark k → (d : ℕ) → kind c ≡ Digit d → ⊥
-  mark_is k e d f = let z : ◌≡◌ {A = ℕ} 0 1 = cc in omega arith
+  mark_is k e d f = cc
+
+  -- a digit more
+  pub digit_stopped : (d : ℕ) (stop : Stop) → kind c ≡ Digit d → Stopped stop (size p) (InText (Some (more_digits p.number d)) (to_come p)) → Stopped stop (size p) (behind c (text_to_come p))
+  digit_stopped d stop e h = stopped_as stop _ (digit_lex p.number c d (to_come p) e) h
 
   -- where a number cannot be taken
-  pub not_flushed : (f : Fault) (place : ℕ) → ((d : ℕ) → kind c ≡ Digit d → ⊥) → Stopped f place (length p.out.now) (flushed n (to_come p)) → Stopped f place (length p.out.now) (behind c (text_to_come n p))
-  not_flushed f place other h = stopped_as f place _ (flush_lex n c (to_come p) other) (stopped_behind f place _ c _ (stopped_text f place _ _ h))
+  not_flushed : (stop : Stop) → ((d : ℕ) → kind c ≡ Digit d → ⊥) → Stopped stop (size p) (flushed p.number (to_come p)) → Stopped stop (size p) (behind c (text_to_come p))
+  not_flushed stop other h = stopped_as stop _ (flush_lex p.number c (to_come p) other) (stopped_behind stop _ c _ (stopped_text stop _ _ h))
 
-  pub not_flushed_space : (f : Fault) (place : ℕ) → kind c ≡ Space → Stopped f place (length p.out.now) (flushed n (to_come p)) → Stopped f place (length p.out.now) (behind c (text_to_come n p))
-  not_flushed_space f place e h = not_flushed f place (space_is e) h
+  pub not_flushed_space : (stop : Stop) → kind c ≡ Space → Stopped stop (size p) (flushed p.number (to_come p)) → Stopped stop (size p) (behind c (text_to_come p))
+  not_flushed_space stop e h = not_flushed stop (space_is e) h
 
-  pub not_flushed_mark : (f : Fault) (place : ℕ) (k : Token) → kind c ≡ Mark k → Stopped f place (length p.out.now) (flushed n (to_come p)) → Stopped f place (length p.out.now) (behind c (text_to_come n p))
-  not_flushed_mark f place k e h = not_flushed f place (mark_is k e) h
+  pub not_flushed_mark : (stop : Stop) (k : Token) → kind c ≡ Mark k → Stopped stop (size p) (flushed p.number (to_come p)) → Stopped stop (size p) (behind c (text_to_come p))
+  not_flushed_mark stop k e h = not_flushed stop (mark_is k e) h
 
-  pub space_step : (p' : Parser) → kind c ≡ Space → Flushed n p p' → Stepped n p None p' (behind c (text_to_come n p))
-  space_step p' e h = record {
-    kept = h.kept;
-    higher = omega (arith, h.higher);
-    waits = tt;
-    same = same_trans (in_same None h.same) (same_trans (space_lex c (flushed n (to_come p)) e) (flush_lex n c (to_come p) (space_is e)));
-  }
+  pub space_step : (p' : Parser) → kind c ≡ Space → Flushed p p' → Stepped p p' (behind c (text_to_come p))
+  space_step p' e h =
+      let s : Same (InText None (to_come p')) (behind c (text_to_come p)) = same_trans (in_same None h.same) (same_trans (space_lex c (flushed p.number (to_come p)) e) (flush_lex p.number c (to_come p) (space_is e))) in
+      subst (λ (n : Option ℕ). Stepped p (record { stack = p'.stack; out = p'.out; number = n }) (behind c (text_to_come p))) (sym h.none)
+      (record { kept = same_kept p p' h.kept; higher = omega (arith, h.higher); waits = tt; same = s })
 
   -- a mark behind the number
-  as_mark : (q : Parser) (k : Token) → kind c ≡ Mark k → Flushed n p q → Same (InText None (behind k (to_come q))) (behind c (text_to_come n p))
-  as_mark q k e h = same_trans (mark_lex c k (to_come q) e) (same_trans (same_behind c (in_same None h.same)) (flush_lex n c (to_come p) (mark_is k e)))
+  as_mark : (q : Parser) (k : Token) → kind c ≡ Mark k → Flushed p q → Same (InText None (behind k (to_come q))) (behind c (text_to_come p))
+  as_mark q k e h = same_trans (mark_lex c k (to_come q) e) (same_trans (same_behind c (in_same None h.same)) (flush_lex p.number c (to_come p) (mark_is k e)))
 
-  pub mark_step : (q p' : Parser) (k : Token) → kind c ≡ Mark k → Flushed n p q → Moved q p' (behind k (to_come q)) → Stepped n p None p' (behind c (text_to_come n p))
-  mark_step q p' k e h m = record {
-    kept = kept_trans p q p' h.kept m.kept;
-    higher = omega (arith, h.higher, m.higher);
-    waits = tt;
-    same = same_trans (in_same None m.same) (as_mark q k e h);
-  }
+  pub mark_step : (q p' : Parser) (k : Token) → kind c ≡ Mark k → Flushed p q → Moved q p' (behind k (to_come q)) → Stepped p p' (behind c (text_to_come p))
+  mark_step q p' k e h m =
+      subst (λ (n : Option ℕ). Stepped p (record { stack = p'.stack; out = p'.out; number = n }) (behind c (text_to_come p))) (sym (m.number_same ∙ h.none))
+      (record {
+        kept = same_kept p p' (kept_trans p q p' h.kept m.kept);
+        higher = omega (arith, h.higher, m.higher);
+        waits = tt;
+        same = same_trans (in_same None m.same) (as_mark q k e h);
+      })
 
-  pub mark_stopped : (q : Parser) (f : Fault) (place : ℕ) (k : Token) → kind c ≡ Mark k → Flushed n p q → Stopped f place (length q.out.now) (behind k (to_come q)) → Stopped f place (length p.out.now) (behind c (text_to_come n p))
-  mark_stopped q f place k e h m = subst (λ (size : ℕ). Stopped f place size (behind c (text_to_come n p))) h.kept.out_long (stopped_as f place _ (as_mark q k e h) (stopped_text f place _ _ m))
+  pub mark_stopped : (q : Parser) (stop : Stop) (k : Token) → kind c ≡ Mark k → Flushed p q → Stopped stop (size q) (behind k (to_come q)) → Stopped stop (size p) (behind c (text_to_come p))
+  mark_stopped q stop k e h m = subst (λ (n : ℕ). Stopped stop n (behind c (text_to_come p))) h.kept.size_same (stopped_as stop _ (as_mark q k e h) (stopped_text stop _ _ m))
 
 -- the end of the text
 flush_end : (n : Option ℕ) (L : Language Token) (bs : List ℕ) → flushed n L [] bs → InText n L [] bs
@@ -103,18 +119,18 @@ wanting (Second ∷ σ) bs h = absurd (some_tokens h.syntax h.tokens_after h.rea
 wanting (Shut ∷ σ) bs h = absurd (omega (arith, ap length h.reads))
 wanting (Rest ∷ σ) bs h = absurd (some_items h.items h.tokens_after h.reads)
 
-module _ (n : Option ℕ) (p : Parser) where
-  pub end_stopped : (f : Fault) (place : ℕ) → Stopped f place (length p.out.now) (flushed n (to_come p)) → StoppedAtEnd f place (length p.out.now) (text_to_come n p)
-  end_stopped (At q) place h = (h.0, λ bs i. h.1 [] bs (end_flush n (to_come p) bs i))
-  end_stopped Full place h = λ bs i. h [] bs (end_flush n (to_come p) bs i)
+module _ (p : Parser) where
+  pub end_stopped : (stop : Stop) → Stopped stop (size p) (flushed p.number (to_come p)) → StoppedAtEnd stop (size p) (text_to_come p)
+  end_stopped Bad h = λ bs i. h [] bs (end_flush p.number (to_come p) bs i)
+  end_stopped Full h = λ bs i. h [] bs (end_flush p.number (to_come p) bs i)
 
-  pub end_open : (q : Parser) → Flushed n p q → 0 < q.height → (bs : List ℕ) → text_to_come n p [] bs → ⊥
+  pub end_open : (q : Parser) → Flushed p q → (q.stack.now.items ≡ [] → ⊥) → (bs : List ℕ) → text_to_come p [] bs → ⊥
   end_open q h some bs i =
-      let w = h.same.from [] bs (end_flush n (to_come p) bs i) in
-      omega (arith, ap length (wanting (stack q) w.bytes_after w.after), length_symbols q.stack.now q.height)
+      let w = h.same.from [] bs (end_flush p.number (to_come p) bs i) in
+      some (wanting q.stack.now.items w.bytes_after w.after)
 
-  pub end_done : (q : Parser) → Flushed n p q → q.height ≤ 0 → Ended n p q q.at
-  end_done q h none =
-      let e : stack q ≡ [] = nil_from_length (stack q) (omega (arith, length_symbols q.stack.now q.height)) in
-      let w : to_come q [] (written q) = record { bytes_after = []; split = sym (append-nil (written q)); after = subst (λ (σ : List Symbol). wants σ [] []) (sym e) (refl, refl) } in
-      record { kept = h.kept; count = refl; done = flush_end n (to_come p) (written q) (h.same.to [] (written q) w) }
+  pub end_done : (q : Parser) → Flushed p q → q.stack.now.items ≡ [] → Ended p q q.out.now.len
+  end_done q h e =
+      let out = written q.out.now in
+      let w : to_come q [] out = record { bytes_after = []; split = sym (append-nil out); after = subst (λ (σ : List Symbol). wants σ [] []) (sym e) (refl, refl) } in
+      record { kept = h.kept; count = refl; done = flush_end p.number (to_come p) out (h.same.to [] out w) }

@@ -1,5 +1,5 @@
 -- A text stands for one tree at most.
-use Rattle.std.proofs.Common.{◌≡◌, ℕ, List, [], ◌∷◌, sym, refl, ap, ◌∙◌, ap₂, arith}
+use Rattle.std.proofs.Common.{◌≡◌, ℕ, List, [], ◌∷◌, sym, refl, ap, ◌∙◌, ap₂}
 use Rattle.lang.specs.Program.{Tree}
 use Rattle.readable.specs.declared.tokens.Token.{Token}
 use Rattle.readable.specs.declared.tokens.Token.TheVariants.{Close, End}
@@ -8,33 +8,33 @@ use Rattle.readable.specs.Text.{Stands}
 
 -- no item begins with the end of a list
 no_end : (s : Syntax) (ks hs : List Token) → End ∷ ks ≡ tokens s hs → ⊥
-no_end dot ks hs e = let z : ◌≡◌ {A = ℕ} 0 1 = cc in omega arith
-no_end (number n) ks hs e = let z : ◌≡◌ {A = ℕ} 0 1 = cc in omega arith
-no_end (pair a b) ks hs e = let z : ◌≡◌ {A = ℕ} 0 1 = cc in omega arith
-no_end (list is) ks hs e = let z : ◌≡◌ {A = ℕ} 0 1 = cc in omega arith
+no_end dot ks hs e = cc
+no_end (number n) ks hs e = cc
+no_end (pair a b) ks hs e = cc
+no_end (list is) ks hs e = cc
 
 mutual
   one_syntax : (s t : Syntax) (ks hs : List Token) → tokens s ks ≡ tokens t hs → (s ≡ t) × (ks ≡ hs)
   one_syntax dot dot ks hs e = (refl, cc)
-  one_syntax dot (number n) ks hs e = let z : ◌≡◌ {A = ℕ} 0 1 = cc in absurd (omega arith)
-  one_syntax dot (pair a b) ks hs e = let z : ◌≡◌ {A = ℕ} 0 1 = cc in absurd (omega arith)
-  one_syntax dot (list is) ks hs e = let z : ◌≡◌ {A = ℕ} 0 1 = cc in absurd (omega arith)
-  one_syntax (number n) dot ks hs e = let z : ◌≡◌ {A = ℕ} 0 1 = cc in absurd (omega arith)
+  one_syntax dot (number n) ks hs e = absurd (cc)
+  one_syntax dot (pair a b) ks hs e = absurd (cc)
+  one_syntax dot (list is) ks hs e = absurd (cc)
+  one_syntax (number n) dot ks hs e = absurd (cc)
   one_syntax (number n) (number m) ks hs e = let f : n ≡ m = cc in (ap number f, cc)
-  one_syntax (number n) (pair a b) ks hs e = let z : ◌≡◌ {A = ℕ} 0 1 = cc in absurd (omega arith)
-  one_syntax (number n) (list is) ks hs e = let z : ◌≡◌ {A = ℕ} 0 1 = cc in absurd (omega arith)
-  one_syntax (pair a b) dot ks hs e = let z : ◌≡◌ {A = ℕ} 0 1 = cc in absurd (omega arith)
-  one_syntax (pair a b) (number n) ks hs e = let z : ◌≡◌ {A = ℕ} 0 1 = cc in absurd (omega arith)
+  one_syntax (number n) (pair a b) ks hs e = absurd (cc)
+  one_syntax (number n) (list is) ks hs e = absurd (cc)
+  one_syntax (pair a b) dot ks hs e = absurd (cc)
+  one_syntax (pair a b) (number n) ks hs e = absurd (cc)
   one_syntax (pair a b) (pair c d) ks hs e =
       let f : tokens a (tokens b (Close ∷ ks)) ≡ tokens c (tokens d (Close ∷ hs)) = cc in
       let l = one_syntax a c (tokens b (Close ∷ ks)) (tokens d (Close ∷ hs)) f in
       let r = one_syntax b d (Close ∷ ks) (Close ∷ hs) l.1 in
       let g = r.1 in
       (ap₂ pair l.0 r.0, cc)
-  one_syntax (pair a b) (list is) ks hs e = let z : ◌≡◌ {A = ℕ} 0 1 = cc in absurd (omega arith)
-  one_syntax (list is) dot ks hs e = let z : ◌≡◌ {A = ℕ} 0 1 = cc in absurd (omega arith)
-  one_syntax (list is) (number n) ks hs e = let z : ◌≡◌ {A = ℕ} 0 1 = cc in absurd (omega arith)
-  one_syntax (list is) (pair a b) ks hs e = let z : ◌≡◌ {A = ℕ} 0 1 = cc in absurd (omega arith)
+  one_syntax (pair a b) (list is) ks hs e = absurd (cc)
+  one_syntax (list is) dot ks hs e = absurd (cc)
+  one_syntax (list is) (number n) ks hs e = absurd (cc)
+  one_syntax (list is) (pair a b) ks hs e = absurd (cc)
   one_syntax (list is) (list js) ks hs e =
       let f : tokens_all is ks ≡ tokens_all js hs = cc in
       let r = one_items is js ks hs f in

@@ -1,5 +1,5 @@
 -- Reading tokens with a stack of what is still to come, and writing the bytes of the tree meant.
-use Rattle.std.specs.Prelude.{◌≡◌, ℕ, zero, suc, ◌<◌, List, [], ◌∷◌, ◌++◌, length, Some, Option, slice_index_or}
+use Rattle.std.specs.Prelude.{◌≡◌, ℕ, ◌<◌, List, [], ◌∷◌, ◌++◌, length, Some, Option}
 use Rattle.lang.specs.Bytes.{bytes_of_tree}
 use Rattle.readable.specs.declared.tokens.Token.{Token}
 use Rattle.readable.specs.declared.tokens.Token.TheVariants.{Close}
@@ -74,8 +74,3 @@ pub record InText (n : Option ℕ) (L : Language Token) (x : List ℕ) (bs : Lis
   pub read : List Token
   pub lexed : lex n x ≡ Some read
   pub after : L read bs
-
--- the first n symbols of a stack, the newest, which is the last, first
-abbrev pub symbols : List Symbol → ℕ → List Symbol
-symbols st zero = []
-symbols st (suc n) = slice_index_or st n Item ∷ symbols st n

@@ -1,14 +1,17 @@
-ghost use Rattle.std.specs.Prelude.{◌≡◌, ℕ, ◌+◌, ◌*◌, ◌<◌, ◌≤◌, true, false, [], ◌∷◌, ◌++◌, length, take, Some, MatchResult};
+ghost use Rattle.std.specs.Prelude.{◌≡◌, ℕ, ◌+◌, ◌<◌, ◌≤◌, true, false, [], ◌∷◌, length, Some, MatchResult};
 ghost use Rattle.lang.specs.Bytes.{bytes_of_tree};
+ghost use Rattle.lent.specs.Output.{Appends, Overflows};
 ghost use Rattle.readable.specs.Syntax.{numeral};
 ghost use Rattle.readable.specs.Text.{more_digits, Parsed, Refused};
-ghost use Rattle.readable.specs.Machine.{behind, Never};
-ghost use Rattle.readable.specs.Parsers.{Topped, stack, written, to_come, text_to_come, flushed, high, Accepts, Waits, Kept, Put, NoRoom, Moved, Flushed, Stepped, Ended, Stopped, StoppedAtEnd, item_after};
+ghost use Rattle.readable.specs.Machine.{behind, Never, InText};
+ghost use Rattle.readable.specs.Parsers.{to_come, text_to_come, flushed, high, size, fault_at, Accepts, Waits, Begins, ParsedInto, HasRoom, Kept, Moved, Flushed, Stepped, Ended, Stopped, StoppedAtEnd, item_after};
 
-use crate::tokens::{Kind, Token, kind_of};
+use crate::tokens::{Kind, Token};
+use lent::output::{NoRoom, Output};
+use lent::stack::Stack;
 
 // What is still to come: an item; the two items of a pair and its closing bracket, the second of them and the bracket, the bracket alone; the rest of a list.
-#[derive(Clone, Copy)]
+#[derive(Clone, Copy, Debug, PartialEq)]
 pub enum Symbol {
     Item,
     First,
@@ -18,266 +21,225 @@ pub enum Symbol {
 }
 
 // The byte where no text that stands for a tree goes on so, or memory that does not suffice.
-#[derive(Clone, Copy)]
+#[derive(Clone, Copy, Debug, PartialEq)]
 pub enum Fault {
     At(usize),
     Full,
 }
 
+// The same, of a token or a byte that does not know where it stands.
+#[derive(Clone, Copy, Debug, PartialEq)]
+enum Stop {
+    Bad,
+    Full,
+}
+
+impl Stop {
+    fn at(self, place: usize) -> Fault
+        ensures { result ≡ fault_at place self }
+    {
+        match self {
+            Stop::Bad => Fault::At(place),
+            Stop::Full => Fault::Full,
+        }
+    }
+}
+
+impl From<NoRoom> for Stop {
+    ghost use Rattle.readable.specs.declared.parsing.Stop.TheVariants.{Full};
+
+    ghost from_gives = { λ _ stop. stop ≡ Full };
+
+    fn from(_: NoRoom) -> Stop {
+        Stop::Full
+    }
+}
+
 // The bytes of the tree of n: a node and a leaf n times, and a leaf.
-fn write_numeral(out: &mut [u8], at: usize, n: usize)
-    requires { at + 2 * n < length out.old }
-    ensures { take (at + 2 * n + 1) out.new ≡ take at out.old ++ bytes_of_tree (numeral n) }
+fn put_numeral(out: &mut Output<'_>, n: usize) -> Result<(), NoRoom>
+    ensures { MatchResult result (λ _. Appends out.old out.new (bytes_of_tree (numeral n))) (λ _. Overflows out.old (bytes_of_tree (numeral n))) }
 {
-    for i in 0..n {
-        out[at + 2 * i] = 1;
-        out[at + 2 * i + 1] = 0;
+    for _ in 0..n {
+        out.put_all(&[1, 0])?;
     }
-    out[at + 2 * n] = 0;
+    out.put(0)
 }
 
+// The stack of what is still to come, the next on top; the bytes written; the digits of a number that has not ended. An explicit stack, since brackets may be nested deeper than the native stack is high.
 #[derive(Drop)]
-struct Parser<'a> {
-    stack: &'a mut [Symbol],
-    height: usize,
-    out: &'a mut [u8],
-    at: usize,
+struct Parser<'a, 's, 'o> {
+    stack: &'a mut Stack<'s, Symbol>,
+    out: &'a mut Output<'o>,
+    number: Option<usize>,
 }
 
-impl Parser<'_> {
-    // One byte more, if there is room.
-    fn put(&mut self, b: u8) -> Result<(), Fault>
-        requires { self.old.at ≤ length self.old.out.now }
-        ensures { MatchResult result (λ _. Put self.old self.new (b ∷ [])) (λ f. NoRoom f self.old (b ∷ [])) }
-    {
-        if self.at >= self.out.len() {
-            return Err(Fault::Full);
-        }
-        self.out[self.at] = b;
-        self.at += 1;
-        Ok(())
-    }
-
-    // The bytes of a number's tree, if there is room.
-    fn put_numeral(&mut self, n: usize) -> Result<(), Fault>
-        requires { self.old.at ≤ length self.old.out.now }
-        ensures { MatchResult result (λ _. Put self.old self.new (bytes_of_tree (numeral n))) (λ f. NoRoom f self.old (bytes_of_tree (numeral n))) }
-    {
-        let room = self.out.len() - self.at;
-        if n >= room - room / 2 {
-            return Err(Fault::Full);
-        }
-        let at = self.at;
-        write_numeral(self.out, at, n);
-        self.at = at + 2 * n + 1;
-        Ok(())
-    }
-
-    fn push(&mut self, s: Symbol)
-        requires room { self.old.height < length self.old.stack.now }
-        requires within { self.old.at ≤ length self.old.out.now }
-        ensures kept { Kept self.old self.new }
-        ensures stack { stack self.new ≡ s ∷ stack self.old }
-        ensures height { self.new.height ≡ self.old.height + 1 }
-        ensures written { written self.new ≡ written self.old }
-    {
-        self.stack[self.height] = s;
-        self.height += 1;
-    }
-
+impl Parser<'_, '_, '_> {
     // A token where an item is to come.
-    fn item(&mut self, k: Token, place: usize) -> Result<(), Fault>
-        requires room { self.old.height < length self.old.stack.now }
-        requires within { self.old.at ≤ length self.old.out.now }
-        ensures { MatchResult result (λ _. Moved self.old self.new (item_after self.old k)) (λ f. Stopped f place (length self.old.out.now) (item_after self.old k)) }
+    fn item(&mut self, token: Token) -> Result<(), Stop>
+        requires { HasRoom self.old }
+        ensures { MatchResult result (λ _. Moved self.old self.new (item_after self.old token)) (λ stop. Stopped stop (size self.old) (item_after self.old token)) }
     {
-        match k {
-            Token::Dot => self.put(0),
-            Token::Number(n) => self.put_numeral(n),
+        match token {
+            Token::Dot => Ok(self.out.put(0)?),
+            Token::Number(n) => Ok(put_numeral(self.out, n)?),
             Token::Open => {
-                self.push(Symbol::First);
-                self.put(1)
+                self.stack.push(Symbol::First);
+                Ok(self.out.put(1)?)
             }
             Token::Begin => {
-                self.push(Symbol::Rest);
+                self.stack.push(Symbol::Rest);
                 Ok(())
             }
-            Token::Close | Token::End => Err(Fault::At(place)),
-        }
-    }
-
-    // A token where a closing bracket is to come.
-    fn shut(&mut self, k: Token, place: usize) -> Result<(), Fault>
-        requires top { Topped self.old Symbol.Shut }
-        requires within { self.old.at ≤ length self.old.out.now }
-        ensures { MatchResult result (λ _. Moved self.old self.new (behind k (to_come self.old))) (λ f. Stopped f place (length self.old.out.now) (behind k (to_come self.old))) }
-    {
-        match k {
-            Token::Close => {
-                self.height -= 1;
-                Ok(())
-            }
-            _ => Err(Fault::At(place)),
-        }
-    }
-
-    // A token in a list: its end, or another item.
-    fn rest(&mut self, k: Token, place: usize) -> Result<(), Fault>
-        requires top { Topped self.old Symbol.Rest }
-        requires room { self.old.height < length self.old.stack.now }
-        requires within { self.old.at ≤ length self.old.out.now }
-        ensures { MatchResult result (λ _. Moved self.old self.new (behind k (to_come self.old))) (λ f. Stopped f place (length self.old.out.now) (behind k (to_come self.old))) }
-    {
-        match k {
-            Token::End => {
-                self.height -= 1;
-                self.put(0)
-            }
-            _ => {
-                self.put(1)?;
-                self.item(k, place)
-            }
+            Token::Close | Token::End => Err(Stop::Bad),
         }
     }
 
     // A token: what is to come is on top of the stack.
-    fn take(&mut self, k: Token, place: usize) -> Result<(), Fault>
-        requires room { self.old.height < length self.old.stack.now }
-        requires within { self.old.at ≤ length self.old.out.now }
-        ensures { MatchResult result (λ _. Moved self.old self.new (behind k (to_come self.old))) (λ f. Stopped f place (length self.old.out.now) (behind k (to_come self.old))) }
+    fn take(&mut self, token: Token) -> Result<(), Stop>
+        requires { HasRoom self.old }
+        ensures { MatchResult result (λ _. Moved self.old self.new (behind token (to_come self.old))) (λ stop. Stopped stop (size self.old) (behind token (to_come self.old))) }
     {
-        if self.height == 0 {
-            return Err(Fault::At(place));
-        }
-        let top = self.height - 1;
-        let wanted = self.stack[top];
+        let Some(wanted) = self.stack.pop() else {
+            return Err(Stop::Bad);
+        };
         match wanted {
-            Symbol::Item => {
-                self.height = top;
-                self.item(k, place)
-            }
+            Symbol::Item => self.item(token),
             Symbol::First => {
-                self.stack[top] = Symbol::Second;
-                self.item(k, place)
+                self.stack.push(Symbol::Second);
+                self.item(token)
             }
             Symbol::Second => {
-                self.stack[top] = Symbol::Shut;
-                self.item(k, place)
+                self.stack.push(Symbol::Shut);
+                self.item(token)
             }
-            Symbol::Shut => self.shut(k, place),
-            Symbol::Rest => self.rest(k, place),
-        }
-    }
-
-    // The number whose digits end here, if there is one.
-    fn flush(&mut self, number: Option<usize>, place: usize) -> Result<(), Fault>
-        requires room { self.old.height < length self.old.stack.now }
-        requires within { self.old.at ≤ length self.old.out.now }
-        ensures { MatchResult result (λ _. Flushed number self.old self.new) (λ f. Stopped f place (length self.old.out.now) (flushed number (to_come self.old))) }
-    {
-        match number {
-            Some(n) => self.take(Token::Number(n), place),
-            None => Ok(()),
+            Symbol::Shut => match token {
+                Token::Close => Ok(()),
+                _ => Err(Stop::Bad),
+            },
+            Symbol::Rest => match token {
+                Token::End => Ok(self.out.put(0)?),
+                _ => {
+                    self.stack.push(Symbol::Rest);
+                    self.out.put(1)?;
+                    self.item(token)
+                }
+            },
         }
     }
 
     // Whether an item may begin here.
     fn wants_item(&self) -> bool
-        requires { self.now.height ≤ length self.now.stack.now }
         ensures no { result ≡ false → (v : ℕ) → Never (behind (Token.Number v) (to_come self.now)) }
-        ensures yes { result ≡ true → Accepts (stack self.now) }
+        ensures yes { result ≡ true → Accepts self.now.stack.now.items }
     {
-        if self.height == 0 {
-            return false;
+        match self.stack.top() {
+            Some(top) => top != Symbol::Shut,
+            None => false,
         }
-        let top = self.stack[self.height - 1];
-        match top {
-            Symbol::Shut => false,
-            _ => true,
+    }
+
+    // The number whose digits end here, if there is one.
+    fn flush(&mut self) -> Result<(), Stop>
+        requires { HasRoom self.old }
+        ensures { MatchResult result (λ _. Flushed self.old self.new) (λ stop. Stopped stop (size self.old) (flushed self.old.number (to_come self.old))) }
+    {
+        match self.number.take() {
+            Some(n) => self.take(Token::Number(n)),
+            None => Ok(()),
         }
     }
 
     // The digits read so far, and one more.
-    fn digit(&self, number: Option<usize>, d: u8, place: usize) -> Result<usize, Fault>
-        requires there { self.now.height ≤ length self.now.stack.now }
-        requires waits { Waits number self.now }
-        ensures { MatchResult result (λ m. (m ≡ more_digits number d) × Accepts (stack self.now)) (λ f. Stopped f place (length self.now.out.now) (text_to_come (Some (more_digits number d)) self.now)) }
+    fn digit(&self, d: u8) -> Result<usize, Stop>
+        requires { Waits self.now }
+        ensures { MatchResult result (λ n. (n ≡ more_digits self.now.number d) × Accepts self.now.stack.now.items) (λ stop. Stopped stop (size self.now) (InText (Some (more_digits self.now.number d)) (to_come self.now))) }
     {
-        let Some(n) = number else {
+        let Some(n) = self.number else {
             if self.wants_item() {
                 return Ok(d as usize);
             }
-            return Err(Fault::At(place));
+            return Err(Stop::Bad);
         };
-        let most = self.out.len();
-        if n > most / 10 {
-            return Err(Fault::Full);
+        let more = n.saturating_mul(10).saturating_add(d as usize);
+        // a number is shorter than its tree's bytes
+        if more > self.out.bytes.len() {
+            return Err(Stop::Full);
         }
-        if d as usize > most - 10 * n {
-            return Err(Fault::Full);
-        }
-        Ok(10 * n + d as usize)
+        Ok(more)
     }
 
-    // One byte of the text, and the digits read so far then.
-    fn byte(&mut self, number: Option<usize>, c: u8, place: usize) -> Result<Option<usize>, Fault>
-        requires room { high number self.old < length self.old.stack.now }
-        requires within { self.old.at ≤ length self.old.out.now }
-        requires waits { Waits number self.old }
-        ensures { MatchResult result (λ n. Stepped number self.old n self.new (behind c (text_to_come number self.old))) (λ f. Stopped f place (length self.old.out.now) (behind c (text_to_come number self.old))) }
+    // One byte of the text.
+    fn byte(&mut self, c: u8) -> Result<(), Stop>
+        requires room { high self.old < self.old.stack.now.capacity }
+        requires waits { Waits self.old }
+        ensures { MatchResult result (λ _. Stepped self.old self.new (behind c (text_to_come self.old))) (λ stop. Stopped stop (size self.old) (behind c (text_to_come self.old))) }
     {
-        match kind_of(c) {
+        match Kind::from(c) {
             Kind::Digit(d) => {
-                let n = self.digit(number, d, place)?;
-                Ok(Some(n))
+                self.number = Some(self.digit(d)?);
+                Ok(())
             }
-            Kind::Space => {
-                self.flush(number, place)?;
-                Ok(None)
+            Kind::Space => self.flush(),
+            Kind::Mark(token) => {
+                self.flush()?;
+                self.take(token)
             }
-            Kind::Mark(k) => {
-                self.flush(number, place)?;
-                self.take(k, place)?;
-                Ok(None)
-            }
-            Kind::Other => Err(Fault::At(place)),
+            Kind::Other => Err(Stop::Bad),
         }
     }
 
     // The end of the text: how many bytes were written.
-    fn end(&mut self, number: Option<usize>, place: usize) -> Result<usize, Fault>
-        requires room { high number self.old < length self.old.stack.now }
-        requires within { self.old.at ≤ length self.old.out.now }
-        ensures { MatchResult result (λ k. Ended number self.old self.new k) (λ f. StoppedAtEnd f place (length self.old.out.now) (text_to_come number self.old)) }
+    fn end(&mut self) -> Result<usize, Stop>
+        requires { high self.old < self.old.stack.now.capacity }
+        ensures { MatchResult result (λ k. Ended self.old self.new k) (λ stop. StoppedAtEnd stop (size self.old) (text_to_come self.old)) }
     {
-        self.flush(number, place)?;
-        if self.height > 0 {
-            return Err(Fault::At(place));
+        self.flush()?;
+        if !self.stack.is_empty() {
+            return Err(Stop::Bad);
         }
-        Ok(self.at)
+        Ok(self.out.len)
     }
+
+    // The whole text.
+    fn text(&mut self, text: &[u8]) -> Result<usize, Fault>
+        requires { Begins text.now self.old }
+        ensures { MatchResult result (λ k. Kept self.old self.new × Parsed text.now self.new.out.now.bytes.now k) (λ f. Refused f text.now self.old.stack.now.capacity (size self.old)) }
+    {
+        for (i, &c) in text.iter().enumerate() {
+            self.byte(c).map_err(|stop| stop.at(i))?;
+        }
+        self.end().map_err(|stop| stop.at(text.len()))
+    }
+}
+
+// The references in a parser have one lifetime, which is named here.
+fn parse_with<'a>(
+    text: &[u8],
+    stack: &'a mut Stack<'_, Symbol>,
+    out: &'a mut Output<'_>,
+) -> Result<usize, Fault>
+    requires empty { stack.old.items ≡ [] }
+    requires room { length text.now + 2 ≤ stack.old.capacity }
+    requires none { out.old.len ≡ 0 }
+    ensures { MatchResult result (λ k. ParsedInto text.now out.old out.new k) (λ f. Refused f text.now stack.old.capacity (length out.old.bytes.now)) }
+{
+    stack.push(Symbol::Item);
+    let mut parser = Parser {
+        stack,
+        out,
+        number: None,
+    };
+    parser.text(text)
 }
 
 // Reads a text that stands for a tree, and writes the tree's bytes at the beginning of `out`: how many they are. The stack holds two symbols more than the text has bytes.
 pub fn parse(text: &[u8], stack: &mut [Symbol], out: &mut [u8]) -> Result<usize, Fault>
     ensures { MatchResult result (λ k. Parsed text.now out.new k) (λ f. Refused f text.now (length stack.old) (length out.old)) }
 {
-    if stack.len() < 2 {
+    if stack.len() < text.len() + 2 {
         return Err(Fault::Full);
     }
-    if stack.len() - 2 < text.len() {
-        return Err(Fault::Full);
-    }
-    stack[0] = Symbol::Item;
-    let mut parser = Parser {
-        stack,
-        height: 1,
-        out,
-        at: 0,
-    };
-    let mut number = None;
-    for i in 0..text.len() {
-        number = parser.byte(number, text[i], i)?;
-    }
-    parser.end(number, text.len())
+    let mut stack = Stack::new(stack);
+    let mut out = Output::new(out);
+    parse_with(text, &mut stack, &mut out)
 }

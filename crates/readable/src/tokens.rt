@@ -1,7 +1,7 @@
 ghost use Rattle.std.specs.Prelude.{◌≡◌};
 ghost use Rattle.readable.specs.Text.{kind};
 
-#[derive(Clone, Copy)]
+#[derive(Clone, Copy, Debug, PartialEq)]
 pub enum Token {
     Dot,
     Open,
@@ -11,7 +11,7 @@ pub enum Token {
     Number(usize),
 }
 
-#[derive(Clone, Copy)]
+#[derive(Clone, Copy, Debug, PartialEq)]
 pub enum Kind {
     Space,
     Digit(u8),
@@ -19,17 +19,19 @@ pub enum Kind {
     Other,
 }
 
-pub fn kind_of(c: u8) -> Kind
-    ensures { result ≡ kind c }
-{
-    match c {
-        b'0'..=b'9' => Kind::Digit(c - b'0'),
-        b'.' => Kind::Mark(Token::Dot),
-        b'(' => Kind::Mark(Token::Open),
-        b')' => Kind::Mark(Token::Close),
-        b'[' => Kind::Mark(Token::Begin),
-        b']' => Kind::Mark(Token::End),
-        b' ' | b'\t' | b'\n' | b'\r' => Kind::Space,
-        _ => Kind::Other,
+impl From<u8> for Kind {
+    ghost from_gives = { λ c k. k ≡ kind c };
+
+    fn from(c: u8) -> Kind {
+        match c {
+            b'0'..=b'9' => Kind::Digit(c - b'0'),
+            b'.' => Kind::Mark(Token::Dot),
+            b'(' => Kind::Mark(Token::Open),
+            b')' => Kind::Mark(Token::Close),
+            b'[' => Kind::Mark(Token::Begin),
+            b']' => Kind::Mark(Token::End),
+            b' ' | b'\t' | b'\n' | b'\r' => Kind::Space,
+            _ => Kind::Other,
+        }
     }
 }

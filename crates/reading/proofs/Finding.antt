@@ -20,9 +20,6 @@ pub record Before (s : List ℕ) (fs : List Fun) (k : ℕ) (starts : List ℕ) (
   pub back : (gs : List Fun) → Functions s gs → (hs : List Fun) × (gs ≡ fs ++ hs) × Functions (drop k s) hs
   pub starting : Starts s fs starts
 
-pub before_none : (s starts : List ℕ) → Before s [] 0 starts 0
-before_none s starts = record { within = omega arith; number = refl; few = omega arith; onto = λ gs h. h; back = λ gs h. (gs, refl, h); starting = λ f g e. let z : ◌≡◌ {A = ℕ} 0 1 = cc in absurd (omega arith) }
-
 -- what comes at the end of a list
 nth_push : (fs : List Fun) (x : Fun) (f : ℕ) (g : Fun) → nth (fs ++ x ∷ []) f ≡ opt.some g → (nth fs f ≡ opt.some g) ⊎ ((f ≡ length fs) × (x ≡ g))
 nth_push [] x zero g e = inr (refl, cc)

@@ -72,9 +72,6 @@ end_of_head s at h a l None q = λ e x r. let g = goes_all (goes_at s at h a r) 
 pub end_by : (s : List ℕ) (at : ℕ) (h : Head) (n w : ℕ) → n ≡ arity_of h → w ≡ width_of h → n ≤ max_args → HeadAt s at (Some h) → (r : Option ℕ) → EndOfAll s n (at + w) r → EndOf s at r
 end_by s at h n w en ew l a r q = end_of_head s at h a (omega arith) r (subst₂ (λ (m k : ℕ). EndOfAll s m (at + k) r) en ew q)
 
-pub end_of_none : (s : List ℕ) (at : ℕ) (h : Head) → HeadAt s at (Some h) → max_args < arity_of h → EndOf s at None
-end_of_none s at h a l e x r = let g = (goes_all (goes_at s at h a r)).0 in omega arith
-
 -- the first byte of an expression, and how many there are at least
 pub record Starting (b n : ℕ) : Type 0 where
   pub known : b ≤ 5

@@ -1,12 +1,13 @@
 -- One expression after another: what is known of a place that i expressions lead to.
-use Rattle.std.proofs.Common.{◌≡◌, ℕ, suc, ◌+◌, ◌-◌, ◌<◌, ◌≤◌, List, length, get_or, drop, set, Some, None, sym, refl, subst, ⊎_elim, add-zero, zero-add, arith}
+use Rattle.std.proofs.Common.{◌≡◌, ℕ, zero, suc, ◌+◌, ◌-◌, ◌<◌, ◌≤◌, List, length, get_or, drop, set, Some, None, Option, sym, refl, subst, ⊎_elim, add-zero, zero-add, arith}
 use Rattle.std.proofs.lemmas.List.{get_or-set_same, get_or-set_other}
-use Rattle.std.proofs.lemmas.Bool.{cases_eq}
+use Rattle.std.proofs.lemmas.Bool.{cases_eq, cases_lt}
 use Rattle.lang.specs.Program.{Expr, Exprs, nil, cons}
 use Rattle.lang.specs.Reads.{Reads, ReadsAll, r_nil, r_cons}
 use Rattle.lang.proofs.Reading.{reads_one}
 use Rattle.reading.proofs.Heading.{starting}
 use Rattle.reading.specs.Ends.{EndOf, EndOfAll, EndWord, EndsFrom}
+use Rattle.reading.specs.Saying.{EndsAt, Said, SaysEnd, SaysEnds}
 
 -- the i expressions from j on end at k
 pub record Passed (s : List ℕ) (j i k : ℕ) : Type 0 where
@@ -53,3 +54,26 @@ passed_all s j n k p = let q = p.onto 0 nil (drop k s) r_nil in (p.within, p.for
 -- one word more of the table of ends
 pub ends_more : (s ends : List ℕ) (at w : ℕ) → at < length ends → EndsFrom s ends (at + 1) → EndWord s at w → EndsFrom s (set ends at w) at
 ends_more s ends at w l h e j i k = ⊎_elim (λ q. subst (λ (n : ℕ). EndWord s n (get_or (set ends at w) n 0)) (sym q) (rw (get_or-set_same ends at w 0 l) e)) (λ q. rw (get_or-set_other ends at j w 0 q) (h j (omega arith) k)) (cases_eq j at)
+
+-- a table that is right says where expressions end
+pub says_ends : (s ends : List ℕ) → EndsFrom s ends 0 → SaysEnds s ends
+says_ends s ends h j l = go (get_or ends j 0) (h j (omega arith) l)
+  where
+    go : (w : ℕ) → EndWord s j w → SaysEnd s j w
+    go zero k = record { none = λ z. k.none refl; forward = λ z. absurd (omega arith); within = omega arith; rest = λ e x r. absurd (k.none refl e x r) }
+    go (suc w) k = let q = k.some (omega arith) in record { none = λ z. absurd (omega arith); forward = λ z. q.1; within = q.0; rest = λ e x r. (reads_one r q.3).1 }
+
+-- what a word says of a place, by a table that is right from there on
+pub end_said : (s ends : List ℕ) (at : ℕ) (r : Option ℕ) → EndsFrom s ends at → Said s ends at r → EndOf s at r
+end_said s ends at (Some k) h q = let e = q.1 in subst (λ (w : ℕ). EndOf s at (Some w)) (sym e) ((h at (omega arith) q.0).some (omega arith))
+end_said s ends at None h q = ⊎_elim (λ l. (h at (omega arith) l).none (q l)) (λ l. none_past s at l) (cases_lt at (length s))
+
+-- by one that says where expressions end
+pub ends_said : (s ends : List ℕ) (at : ℕ) (r : Option ℕ) → SaysEnds s ends → Said s ends at r → EndsAt s at r
+ends_said s ends at (Some k) h q =
+    let e = q.1 in
+    let w = h at q.0 in
+    let f = w.forward (omega arith) in
+    let i = w.within in
+    (omega arith, omega arith, subst (λ (z : ℕ). (e : Expr) (x : List ℕ) → Reads (drop at s) e x → x ≡ drop z s) (sym e) w.rest)
+ends_said s ends at None h q = ⊎_elim (λ l. (h at l).none (q l)) (λ l. none_past s at l) (cases_lt at (length s))

@@ -1,24 +1,24 @@
 -- What the expression at a place needs, by its head.
-use Rattle.std.proofs.Common.{◌≡◌, ℕ, zero, suc, ◌+◌, ◌-◌, ◌<◌, ◌≤◌, Bool, true, false, ◌&&◌, T, eqb, ltb, leb, ◌⊎◌, List, [], ◌∷◌, length, get_or, take, drop, Some, sym, refl, ap, ◌∙◌, subst, inl, inr, ⊎_elim, add-zero, arith, le→leb, length-append, length-drop}
+use Rattle.std.proofs.Common.{◌≡◌, ℕ, zero, suc, ◌+◌, ◌-◌, ◌<◌, ◌≤◌, max, Bool, true, false, ◌&&◌, T, eqb, ltb, leb, ◌⊎◌, List, [], ◌∷◌, length, get_or, take, drop, Some, None, Option, sym, refl, ap, ◌∙◌, subst, inl, inr, add-zero, arith, le→leb, length-append, length-drop}
 use mathlib.Core.Option as opt
 use Rattle.std.proofs.lemmas.List.{length-take-le, get_or-take, take_at}
 use Rattle.sizechange.specs.Graph.{nth}
-use Rattle.std.proofs.lemmas.Bool.{le-leb, lt-leb, cases_lt}
+use Rattle.std.proofs.lemmas.Bool.{cases_lt}
 use Rattle.sizechange.proofs.Lists.{nth_some, nth_below}
 use Rattle.lang.specs.Program.{Expr, Prog, Fun, max_args, max_functions, max_bytes}
 use Rattle.lang.specs.Bytes.{ok, oks, takes, all_ok, bytes_of_expr, Program}
 use Rattle.lang.specs.Reads.{Reads, r_nil, r_cons}
-use Rattle.lang.proofs.Lists.{from_both}
+use Rattle.lang.proofs.Lists.{both, from_both}
 use Rattle.lang.proofs.Reading.{reads_all_bytes, reads_bytes, reads_one, body_ok, fine_parts}
-use Rattle.reading.specs.declared.head.Head.TheVariants.{Var, Leaf, Node, Parts, Bind, Call}
+use Rattle.reading.specs.declared.head.Head.TheVariants.{Node, Parts, Bind, Call}
 use Rattle.reading.specs.Ends.{EndsFrom, EndWord}
 use Rattle.reading.specs.Heads.{HeadAt}
 use Rattle.reading.specs.Tables.{Tables}
 use Rattle.reading.specs.Functions.{Functions, f_none, f_more, StandsAt, Found}
-use Rattle.reading.specs.Needs.{Least, Located, Need, NeedOfTwo, NeedOfAll, NeedsFrom}
-use Rattle.reading.proofs.Heading.{Goes, g_var, g_leaf, g_node, g_parts, g_bind, g_call, goes_at, starting}
+use Rattle.reading.specs.Needs.{Least, Located, Need, NeedOfTwo, NeedOfAll}
+use Rattle.reading.proofs.Heading.{Goes, g_node, g_parts, g_bind, g_call, goes_at, starting}
 use Rattle.reading.proofs.Finding.{functions_bytes, functions_one, program_functions}
-use Rattle.reading.proofs.Needing.{least_same, least_true, least_var, least_none}
+use Rattle.reading.proofs.Needing.{least_same, least_var, least_max}
 
 -- the function of a number that is there
 pub function_at : (s starts : List ℕ) (p : Prog) (f : ℕ) → Located s starts p → f < length starts → (g : Fun) × (nth p f ≡ opt.some g) × StandsAt s g (get_or starts f 0)
@@ -35,55 +35,48 @@ takes_there s starts p f n h l = let x = function_at s starts p f h l in ap (λ 
 pub takes_none : (s starts : List ℕ) (p : Prog) (f n : ℕ) → Located s starts p → length starts ≤ f → false ≡ takes (nth p f) n
 takes_none s starts p f n h l = let e = h.number in sym (ap (λ (o : opt.Option Fun). takes o n) (nth_past p f (omega arith)))
 
-var_goes : (p : Prog) (i : ℕ) {xs x : List ℕ} {e : Expr} → Goes (Var i) xs e x → Least (λ v. ok p v e) (i + 2)
-var_goes p i g_var = least_var i
+node_goes : (p : Prog) (s : List ℕ) (at : ℕ) (r : Option ℕ) {x : List ℕ} {e : Expr} → NeedOfTwo p s at 0 r → Goes Node (drop at s) e x → Least (λ v. ok p v e) r
+node_goes p s at r {x} d (g_node {a = a} {b = b} (r_cons {ys = ys} h (r_cons k r_nil))) = least_same r (λ v. ap (λ (z : ℕ). ok p v a && ok p z b) (add-zero v)) (d a b ys x h k)
 
-leaf_goes : (p : Prog) {xs x : List ℕ} {e : Expr} → Goes Leaf xs e x → Least (λ v. ok p v e) 1
-leaf_goes p g_leaf = least_true
+bind_goes : (p : Prog) (s : List ℕ) (at : ℕ) (r : Option ℕ) {x : List ℕ} {e : Expr} → NeedOfTwo p s at 1 r → Goes Bind (drop at s) e x → Least (λ v. ok p v e) r
+bind_goes p s at r {x} d (g_bind {a = a} {b = b} (r_cons {ys = ys} h (r_cons k r_nil))) = d a b ys x h k
 
-node_goes : (p : Prog) (s : List ℕ) (at w : ℕ) {x : List ℕ} {e : Expr} → NeedOfTwo p s at 0 w → Goes Node (drop at s) e x → Least (λ v. ok p v e) w
-node_goes p s at w {x} d (g_node {a = a} {b = b} (r_cons {ys = ys} h (r_cons k r_nil))) = least_same (λ v. ap (λ (z : ℕ). ok p v a && ok p z b) (add-zero v)) (d a b ys x h k)
+-- both parts and the variable itself
+abbrev seen_too : ℕ → Option ℕ → Option ℕ
+seen_too i None = None
+seen_too i (Some w) = Some (max (i + 1) w)
 
-bind_goes : (p : Prog) (s : List ℕ) (at w : ℕ) {x : List ℕ} {e : Expr} → NeedOfTwo p s at 1 w → Goes Bind (drop at s) e x → Least (λ v. ok p v e) w
-bind_goes p s at w {x} d (g_bind {a = a} {b = b} (r_cons {ys = ys} h (r_cons k r_nil))) = d a b ys x h k
+parts_goes : (p : Prog) (s : List ℕ) (at i : ℕ) (r : Option ℕ) {x : List ℕ} {e : Expr} → NeedOfTwo p s at 2 r → Goes (Parts i) (drop at s) e x → Least (λ v. ok p v e) (seen_too i r)
+parts_goes p s at i (Some w) {x} d (g_parts {a = a} {b = b} (r_cons {ys = ys} h (r_cons k r_nil))) = least_max (i + 1) w (least_var i) (d a b ys x h k)
+parts_goes p s at i None {x} d (g_parts {a = a} {b = b} (r_cons {ys = ys} h (r_cons k r_nil))) = λ v o. d a b ys x h k v (both (ltb i v) (ok p v a && ok p (v + 2) b) o).1
 
-parts_goes : (p : Prog) (s : List ℕ) (at i w u : ℕ) {x : List ℕ} {e : Expr} → NeedOfTwo p s at 2 w → ((Q R : ℕ → Bool) → Least Q (i + 2) → Least R w → Least (λ n. Q n && R n) u) → Goes (Parts i) (drop at s) e x → Least (λ v. ok p v e) u
-parts_goes p s at i w u {x} d f (g_parts {a = a} {b = b} (r_cons {ys = ys} h (r_cons k r_nil))) = f (λ n. ltb i n) (λ n. ok p n a && ok p (n + 2) b) (least_var i) (d a b ys x h k)
+call_goes : (p : Prog) (s : List ℕ) (at f n : ℕ) (r : Option ℕ) {x : List ℕ} {e : Expr} → true ≡ takes (nth p f) n → NeedOfAll p s n at r → Goes (Call f n) (drop at s) e x → Least (λ v. ok p v e) r
+call_goes p s at f n r {x} t d (g_call {es = es} l h) = least_same r (λ v. ap (λ (b : Bool). b && oks p v es) (t ∙ ap (λ (m : ℕ). takes (nth p f) m) (sym (reads_all_bytes h).1))) (d es x h)
 
-call_goes : (p : Prog) (s : List ℕ) (at f n w : ℕ) {x : List ℕ} {e : Expr} → true ≡ takes (nth p f) n → NeedOfAll p s n at w → Goes (Call f n) (drop at s) e x → Least (λ v. ok p v e) w
-call_goes p s at f n w {x} t d (g_call {es = es} l h) = least_same (λ v. ap (λ (b : Bool). b && oks p v es) (t ∙ ap (λ (m : ℕ). takes (nth p f) m) (sym (reads_all_bytes h).1))) (d es x h)
+no_call_goes : (p : Prog) (f n : ℕ) {xs x : List ℕ} {e : Expr} → false ≡ takes (nth p f) n → Goes (Call f n) xs e x → (v : ℕ) → T (ok p v e) → ⊥
+no_call_goes p f n t (g_call {es = es} l h) v o = subst T (sym (ap (λ (b : Bool). b && oks p v es) (t ∙ ap (λ (m : ℕ). takes (nth p f) m) (sym (reads_all_bytes h).1)))) o
 
-no_call_goes : (p : Prog) (f n : ℕ) {xs x : List ℕ} {e : Expr} → false ≡ takes (nth p f) n → Goes (Call f n) xs e x → Least (λ v. ok p v e) 0
-no_call_goes p f n t (g_call {es = es} l h) = least_none (λ v o. subst T (sym (ap (λ (b : Bool). b && oks p v es) (t ∙ ap (λ (m : ℕ). takes (nth p f) m) (sym (reads_all_bytes h).1)))) o)
+pub need_node : (p : Prog) (s : List ℕ) (at : ℕ) (r : Option ℕ) → HeadAt s at (Some Node) → NeedOfTwo p s (at + 1) 0 r → Need p s at r
+need_node p s at r a d e x q = node_goes p s (at + 1) r d (goes_at s at Node a q)
 
-pub need_var : (p : Prog) (s : List ℕ) (at i : ℕ) → HeadAt s at (Some (Var i)) → Need p s at (i + 2)
-need_var p s at i a e x r = var_goes p i (goes_at s at (Var i) a r)
+pub need_bind : (p : Prog) (s : List ℕ) (at : ℕ) (r : Option ℕ) → HeadAt s at (Some Bind) → NeedOfTwo p s (at + 1) 1 r → Need p s at r
+need_bind p s at r a d e x q = bind_goes p s (at + 1) r d (goes_at s at Bind a q)
 
-pub need_leaf : (p : Prog) (s : List ℕ) (at : ℕ) → HeadAt s at (Some Leaf) → Need p s at 1
-need_leaf p s at a e x r = leaf_goes p (goes_at s at Leaf a r)
+pub need_parts : (p : Prog) (s : List ℕ) (at i w : ℕ) → HeadAt s at (Some (Parts i)) → NeedOfTwo p s (at + 2) 2 (Some w) → Need p s at (Some (max (i + 1) w))
+need_parts p s at i w a d e x q = parts_goes p s (at + 2) i (Some w) d (goes_at s at (Parts i) a q)
 
-pub need_node : (p : Prog) (s : List ℕ) (at w : ℕ) → HeadAt s at (Some Node) → NeedOfTwo p s (at + 1) 0 w → Need p s at w
-need_node p s at w a d e x r = node_goes p s (at + 1) w d (goes_at s at Node a r)
+pub need_no_parts : (p : Prog) (s : List ℕ) (at i : ℕ) → HeadAt s at (Some (Parts i)) → NeedOfTwo p s (at + 2) 2 None → Need p s at None
+need_no_parts p s at i a d e x q = parts_goes p s (at + 2) i None d (goes_at s at (Parts i) a q)
 
-pub need_bind : (p : Prog) (s : List ℕ) (at w : ℕ) → HeadAt s at (Some Bind) → NeedOfTwo p s (at + 1) 1 w → Need p s at w
-need_bind p s at w a d e x r = bind_goes p s (at + 1) w d (goes_at s at Bind a r)
+pub need_call : (p : Prog) (s : List ℕ) (at f n : ℕ) (r : Option ℕ) → HeadAt s at (Some (Call f n)) → true ≡ takes (nth p f) n → NeedOfAll p s n (at + 3) r → Need p s at r
+need_call p s at f n r a t d e x q = call_goes p s (at + 3) f n r t d (goes_at s at (Call f n) a q)
 
-pub need_parts : (p : Prog) (s : List ℕ) (at i w u : ℕ) → HeadAt s at (Some (Parts i)) → NeedOfTwo p s (at + 2) 2 w → ((Q R : ℕ → Bool) → Least Q (i + 2) → Least R w → Least (λ n. Q n && R n) u) → Need p s at u
-need_parts p s at i w u a d f e x r = parts_goes p s (at + 2) i w u d f (goes_at s at (Parts i) a r)
-
-pub need_call : (p : Prog) (s : List ℕ) (at f n w : ℕ) → HeadAt s at (Some (Call f n)) → true ≡ takes (nth p f) n → NeedOfAll p s n (at + 3) w → Need p s at w
-need_call p s at f n w a t d e x r = call_goes p s (at + 3) f n w t d (goes_at s at (Call f n) a r)
-
-pub need_no_call : (p : Prog) (s : List ℕ) (at f n : ℕ) → HeadAt s at (Some (Call f n)) → false ≡ takes (nth p f) n → Need p s at 0
-need_no_call p s at f n a t e x r = no_call_goes p f n t (goes_at s at (Call f n) a r)
+pub need_no_call : (p : Prog) (s : List ℕ) (at f n : ℕ) → HeadAt s at (Some (Call f n)) → false ≡ takes (nth p f) n → Need p s at None
+need_no_call p s at f n a t e x q = no_call_goes p f n t (goes_at s at (Call f n) a q)
 
 -- where a body starts, a byte stands
 pub body_within : (s : List ℕ) (g : Fun) (at : ℕ) → StandsAt s g at → at + 1 < length s
 body_within s g at h = omega (arith, (starting s (at + 1) h.body_there).one)
-
--- the body's word against the number of arguments
-pub fits : (p : Prog) (s starts needs : List ℕ) (f : ℕ) (g : Fun) → Located s starts p → NeedsFrom p s needs 0 → nth p f ≡ opt.some g → Least (λ v. ok p v g.body) (get_or needs (get_or starts f 0 + 1) 0)
-fits p s starts needs f g l d e = let h = l.starting f g e in d (get_or starts f 0 + 1) (omega arith) (body_within s g (get_or starts f 0) h) g.body h.rest h.body_there
 
 pub is_true : (b : Bool) → T b → true ≡ b
 is_true true t = refl
@@ -92,21 +85,6 @@ is_true false t = elim t [ ]
 pub is_false : (b : Bool) → (T b → ⊥) → false ≡ b
 is_false true t = absurd (t tt)
 is_false false t = refl
-
-same_args : (p : Prog) (s starts : List ℕ) (f : ℕ) (g : Fun) → Located s starts p → nth p f ≡ opt.some g → get_or s (get_or starts f 0) 0 ≡ g.args
-same_args p s starts f g l e = (l.starting f g e).args_there
-
-pub fits_yes : (p : Prog) (s starts needs : List ℕ) (f : ℕ) (g : Fun) → Located s starts p → NeedsFrom p s needs 0 → nth p f ≡ opt.some g → 0 < get_or needs (get_or starts f 0 + 1) 0 → get_or needs (get_or starts f 0 + 1) 0 ≤ get_or s (get_or starts f 0) 0 + 1 → true ≡ ok p g.args g.body
-fits_yes p s starts needs f g l d e z h = let a = same_args p s starts f g l e in is_true (ok p g.args g.body) ((fits p s starts needs f g l d e).enough z g.args (omega arith))
-
-pub fits_zero : (p : Prog) (s starts needs : List ℕ) (f : ℕ) (g : Fun) → Located s starts p → NeedsFrom p s needs 0 → nth p f ≡ opt.some g → get_or needs (get_or starts f 0 + 1) 0 ≡ 0 → false ≡ ok p g.args g.body
-fits_zero p s starts needs f g l d e z = is_false (ok p g.args g.body) ((fits p s starts needs f g l d e).never z g.args)
-
-pub fits_no : (p : Prog) (s starts needs : List ℕ) (f : ℕ) (g : Fun) → Located s starts p → NeedsFrom p s needs 0 → nth p f ≡ opt.some g → 0 < get_or needs (get_or starts f 0 + 1) 0 → get_or s (get_or starts f 0) 0 + 1 < get_or needs (get_or starts f 0 + 1) 0 → false ≡ ok p g.args g.body
-fits_no p s starts needs f g l d e z h = let a = same_args p s starts f g l e in is_false (ok p g.args g.body) (λ t. omega (arith, (fits p s starts needs f g l d e).needed z g.args t))
-
-pub fits_test : (p : Prog) (s starts needs : List ℕ) (f : ℕ) (g : Fun) → Located s starts p → NeedsFrom p s needs 0 → nth p f ≡ opt.some g → 0 < get_or needs (get_or starts f 0 + 1) 0 → leb (get_or needs (get_or starts f 0 + 1) 0) (get_or s (get_or starts f 0) 0 + 1) ≡ ok p g.args g.body
-fits_test p s starts needs f g l d e z = ⊎_elim (λ h. lt-leb _ _ h ∙ fits_no p s starts needs f g l d e z h) (λ h. le-leb _ _ h ∙ fits_yes p s starts needs f g l d e z h) (cases_lt (get_or s (get_or starts f 0) 0 + 1) (get_or needs (get_or starts f 0 + 1) 0))
 
 -- a program is well-formed if each body is
 pub each_ok : (p : Prog) {s : List ℕ} {gs : List Fun} → Functions s gs → ((f : ℕ) (g : Fun) → nth gs f ≡ opt.some g → T (ok p g.args g.body)) → T (all_ok p gs)
@@ -129,6 +107,10 @@ located s starts p n l h =
       few = let f = h.few in omega arith;
       starting = λ f g q. let b = nth_below p f q in let c = h.number in subst (StandsAt s g) (sym (get_or-take n starts f 0 (omega arith))) (h.starting f g q);
     })
+
+-- after each start a body stands
+pub bodies_within : (s starts : List ℕ) (p : Prog) → Located s starts p → (f : ℕ) → f < length starts → get_or starts f 0 + 1 < length s
+bodies_within s starts p h f l = let x = function_at s starts p f h l in body_within s x.0 (get_or starts f 0) x.2
 
 -- found functions whose bodies are well-formed are a program
 pub program_found : (s starts : List ℕ) (p : Prog) (n : ℕ) → length s ≤ max_bytes → Found s p starts n → T (all_ok p p) → Program s p

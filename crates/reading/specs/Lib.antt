@@ -3,4 +3,5 @@ pub mod Ends
 pub mod Functions
 pub mod Heads
 pub mod Needs
+pub mod Saying
 pub mod Tables

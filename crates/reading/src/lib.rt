@@ -1,8 +1,8 @@
 // Reads a script: bytes to where its functions start and where its expressions end.
 #![tactic(auto)]
 
-mod bodies;
 pub mod ends;
+pub mod expressions;
 pub mod functions;
 pub mod head;
 mod needs;

@@ -1,146 +1,151 @@
-ghost use Rattle.std.specs.Prelude.{◌≡◌, ℕ, ◌+◌, ◌<◌, ◌≤◌, Bool, ◌&&◌, length, Some};
-ghost use Rattle.lang.specs.Program.{Prog};
-ghost use Rattle.reading.specs.Ends.{EndsFrom};
+ghost use Rattle.std.specs.Prelude.{◌≡◌, ℕ, ◌+◌, ◌^◌, ◌<◌, ◌≤◌, Bool, length, Some, IfSome, slice_index};
+ghost use Rattle.lang.specs.Bytes.{all_ok, ok, takes};
+ghost use Rattle.lang.specs.Program.{Fun, Prog};
+ghost use Rattle.reading.specs.Functions.{StandsAt};
 ghost use Rattle.reading.specs.Heads.{HeadAt};
+ghost use Rattle.reading.specs.Needs.{Located, Need, NeedOfAll, NeedOfTwo, NeedsFrom, need_of};
 ghost use Rattle.sizechange.specs.Graph.{nth};
-ghost use Rattle.lang.specs.Bytes.{takes, all_ok};
-ghost use Rattle.reading.specs.Needs.{Least, Located, Need, NeedOfAll, NeedOfTwo, NeedsFrom};
 
-use super::ends::{head_at, known_end};
+use super::ends::head_at;
+use super::expressions::Expressions;
 use super::head::Head;
 
-// What two tests need: the larger, or 0 if one never passes.
-fn larger(a: u32, b: u32) -> u32
-    ensures { (Q R : ℕ → Bool) → Least Q a → Least R b → Least (λ n. Q n && R n) result }
-{
-    if a == 0 {
-        0
-    } else if b == 0 {
-        0
-    } else {
-        a.max(b)
-    }
+// What is known of a script while the table of needs is filled, and after: how many variables each expression needs in view.
+#[derive(Clone, Copy)]
+pub(crate) struct Needs<'a> {
+    pub expressions: Expressions<'a>,
+    pub starts: &'a [u32],
+    pub words: &'a [u32],
+    ghost bodies: { (f : ℕ) → f < length starts.now → slice_index starts.now f + 1 < length expressions.bytes.now },
+    ghost room: { length expressions.bytes.now ≤ length words.now },
 }
 
-// What a test needs with so many more in view.
-fn lower(a: u32, by: u32) -> u32
-    ensures { (Q : ℕ → Bool) → Least Q a → Least (λ n. Q (n + by)) result }
-{
-    if a == 0 {
-        0
-    } else if a > by {
-        a - by
-    } else {
-        1
+// That a need fits a word with one more stays a clause: in a struct of its own it would lose `max` and `saturating_sub`.
+impl Needs<'_> {
+    // What the expression at a place needs, by the table.
+    fn known_need(&self, at: usize) -> Option<u32>
+        requires { at < length self.now.expressions.bytes.now }
+        ensures need { result ≡ need_of (slice_index self.now.words.now at) }
+        ensures fits { IfSome result (λ n. n + 1 < 2 ^ 32) }
+    {
+        self.words[at].checked_sub(1)
     }
-}
 
-// What n expressions one after the other need, by the tables, which are right from there on.
-fn need_of_all(bytes: &[u8], ends: &[u32], needs: &[u32], at: usize, n: u8) -> u32
-    requires within { length bytes.now ≤ length ends.now }
-    requires needs_within { length bytes.now ≤ length needs.now }
-    requires known { EndsFrom bytes.now ends.now at }
-    ensures { (p : Prog) → NeedsFrom p bytes.now needs.now at → NeedOfAll p bytes.now n at result }
-{
-    let mut need = 1;
-    let mut place = at;
-    for _i in 0..n {
-        match known_end(bytes, ends, place) {
-            Some(end) => {
-                need = larger(need, needs[place]);
-                place = end;
-            }
-            None => return 0,
+    // What n expressions one after the other need, by the tables, of which that of needs is right from there on.
+    fn need_of_all(&self, at: usize, n: u8) -> Option<u32>
+        ensures need { (p : Prog) → NeedsFrom p self.now.expressions.bytes.now self.now.words.now at → NeedOfAll p self.now.expressions.bytes.now n at result }
+        ensures fits { IfSome result (λ n. n + 1 < 2 ^ 32) }
+    {
+        let mut need = 0u32;
+        let mut place = at;
+        for _i in 0..n {
+            let end = self.expressions.end(place)?;
+            let own = self.known_need(place)?;
+            need = need.max(own);
+            place = end;
         }
+        Some(need)
     }
-    need
-}
 
-// What two expressions one after the other need, the second with so many more variables in view.
-fn need_of_two(bytes: &[u8], ends: &[u32], needs: &[u32], at: usize, more: u32) -> u32
-    requires within { length bytes.now ≤ length ends.now }
-    requires needs_within { length bytes.now ≤ length needs.now }
-    requires known { EndsFrom bytes.now ends.now at }
-    ensures { (p : Prog) → NeedsFrom p bytes.now needs.now at → NeedOfTwo p bytes.now at more result }
-{
-    match known_end(bytes, ends, at) {
-        Some(second) => {
-            if second < bytes.len() {
-                larger(needs[at], lower(needs[second], more))
-            } else {
-                0
-            }
+    // What two expressions one after the other need, the second with so many more variables in view.
+    fn need_of_two(&self, at: usize, more: u32) -> Option<u32>
+        ensures need { (p : Prog) → NeedsFrom p self.now.expressions.bytes.now self.now.words.now at → NeedOfTwo p self.now.expressions.bytes.now at more result }
+        ensures fits { IfSome result (λ n. n + 1 < 2 ^ 32) }
+    {
+        let second = self.expressions.end(at)?;
+        if second >= self.expressions.bytes.len() {
+            return None;
         }
-        None => 0,
+        let first_need = self.known_need(at)?;
+        let second_need = self.known_need(second)?;
+        Some(first_need.max(second_need.saturating_sub(more)))
     }
-}
 
-// Whether function f is there and takes n arguments.
-fn takes_args(bytes: &[u8], starts: &[u32], f: u8, n: u8) -> bool
-    requires { (p : Prog) × Located bytes.now starts.now p }
-    ensures { (p : Prog) → Located bytes.now starts.now p → result ≡ takes (nth p f) n }
-{
-    let f = f as usize;
-    f < starts.len() && bytes[starts[f] as usize] == n
-}
+    // Whether function f is there and takes n arguments.
+    fn takes_args(&self, f: u8, n: u8) -> bool
+        ensures { (p : Prog) → Located self.now.expressions.bytes.now self.now.starts.now p → result ≡ takes (nth p f) n }
+    {
+        let f = f as usize;
+        f < self.starts.len() && self.expressions.bytes[self.starts[f] as usize] == n
+    }
 
-// What the expression with a head needs, by the tables, which are right after its place.
-fn need_of_head(
-    bytes: &[u8],
-    ends: &[u32],
-    starts: &[u32],
-    needs: &[u32],
-    at: usize,
-    head: Head,
-) -> u32
-    requires within { length bytes.now ≤ length ends.now }
-    requires needs_within { length bytes.now ≤ length needs.now }
-    requires known { EndsFrom bytes.now ends.now 0 }
-    requires found { (p : Prog) × Located bytes.now starts.now p }
-    requires stands { HeadAt bytes.now at (Some head) }
-    ensures { (p : Prog) → Located bytes.now starts.now p → NeedsFrom p bytes.now needs.now (at + 1) → Need p bytes.now at result }
-{
-    match head {
-        Head::Var(i) => i as u32 + 2,
-        Head::Leaf => 1,
-        Head::Node => need_of_two(bytes, ends, needs, at + 1, 0),
-        Head::Parts(i) => larger(i as u32 + 2, need_of_two(bytes, ends, needs, at + 2, 2)),
-        Head::Bind => need_of_two(bytes, ends, needs, at + 1, 1),
-        Head::Call(f, n) => {
-            if takes_args(bytes, starts, f, n) {
-                need_of_all(bytes, ends, needs, at + 3, n)
-            } else {
-                0
+    // What the expression with a head needs, by the tables, of which that of needs is right after its place.
+    fn need_of_head(&self, at: usize, head: Head) -> Option<u32>
+        requires stands { HeadAt self.now.expressions.bytes.now at (Some head) }
+        ensures need { (p : Prog) → Located self.now.expressions.bytes.now self.now.starts.now p → NeedsFrom p self.now.expressions.bytes.now self.now.words.now (at + 1) → Need p self.now.expressions.bytes.now at result }
+        ensures fits { IfSome result (λ n. n + 1 < 2 ^ 32) }
+    {
+        match head {
+            Head::Var(i) => Some(i as u32 + 1),
+            Head::Leaf => Some(0),
+            Head::Node => self.need_of_two(at + 1, 0),
+            Head::Parts(i) => {
+                let both = self.need_of_two(at + 2, 2)?;
+                Some((i as u32 + 1).max(both))
+            }
+            Head::Bind => self.need_of_two(at + 1, 1),
+            Head::Call(f, n) => {
+                if self.takes_args(f, n) {
+                    self.need_of_all(at + 3, n)
+                } else {
+                    None
+                }
             }
         }
     }
-}
 
-// What the expression at a place needs, by the tables, which are right after that place.
-fn need_at(bytes: &[u8], ends: &[u32], starts: &[u32], needs: &[u32], at: usize) -> u32
-    requires within { length bytes.now ≤ length ends.now }
-    requires needs_within { length bytes.now ≤ length needs.now }
-    requires known { EndsFrom bytes.now ends.now 0 }
-    requires found { (p : Prog) × Located bytes.now starts.now p }
-    ensures { (p : Prog) → Located bytes.now starts.now p → NeedsFrom p bytes.now needs.now (at + 1) → Need p bytes.now at result }
-{
-    match head_at(bytes, at) {
-        Some(head) => need_of_head(bytes, ends, starts, needs, at, head),
-        None => 0,
+    // The need of the expression at a place as a word of the table, which is right after that place: one more, or 0 if nothing is enough.
+    fn need_word(&self, at: usize) -> u32
+        ensures { (p : Prog) → Located self.now.expressions.bytes.now self.now.starts.now p → NeedsFrom p self.now.expressions.bytes.now self.now.words.now (at + 1) → Need p self.now.expressions.bytes.now at (need_of result) }
+    {
+        self.need_at(at).map_or(0, |need| need + 1)
+    }
+
+    // What the expression at a place needs, by the tables, of which that of needs is right after that place.
+    fn need_at(&self, at: usize) -> Option<u32>
+        ensures need { (p : Prog) → Located self.now.expressions.bytes.now self.now.starts.now p → NeedsFrom p self.now.expressions.bytes.now self.now.words.now (at + 1) → Need p self.now.expressions.bytes.now at result }
+        ensures fits { IfSome result (λ n. n + 1 < 2 ^ 32) }
+    {
+        let head = head_at(self.expressions.bytes, at)?;
+        self.need_of_head(at, head)
+    }
+
+    // Whether the body of the function that starts at a place is well-formed with its arguments in view.
+    fn body_fits(&self, start: usize) -> bool
+        requires { start + 1 < length self.now.expressions.bytes.now }
+        ensures { (p : Prog) (g : Fun) → NeedsFrom p self.now.expressions.bytes.now self.now.words.now 0 → StandsAt self.now.expressions.bytes.now g start → result ≡ ok p g.args g.body }
+    {
+        let args = self.expressions.bytes[start] as u32;
+        self.known_need(start + 1).is_some_and(|need| need <= args)
+    }
+
+    // Whether the bodies of all functions are.
+    pub(crate) fn bodies_fit(&self) -> bool
+        ensures { (p : Prog) → Located self.now.expressions.bytes.now self.now.starts.now p → NeedsFrom p self.now.expressions.bytes.now self.now.words.now 0 → result ≡ all_ok p p }
+    {
+        // No `all`: that its closure may be called at each start did not close, by `search` with `chains` or `grind` with `serving`.
+        for &start in self.starts {
+            if !self.body_fits(start as usize) {
+                return false;
+            }
+        }
+        true
     }
 }
 
 // Fills the table of needs, from the last byte to the first.
-pub(crate) fn fill_needs(bytes: &[u8], ends: &[u32], starts: &[u32], needs: &mut [u32])
-    requires within { length bytes.now ≤ length ends.now }
-    requires needs_within { length bytes.now ≤ length needs.old }
-    requires known { EndsFrom bytes.now ends.now 0 }
-    requires found { (p : Prog) × Located bytes.now starts.now p }
-    ensures { (p : Prog) → Located bytes.now starts.now p → NeedsFrom p bytes.now needs.new 0 }
+pub(crate) fn fill_needs(expressions: Expressions, starts: &[u32], needs: &mut [u32])
+    requires bodies { (f : ℕ) → f < length starts.now → slice_index starts.now f + 1 < length expressions.bytes.now }
+    requires room { length expressions.bytes.now ≤ length needs.old }
+    ensures { (p : Prog) → Located expressions.entry.bytes.now starts.now p → NeedsFrom p expressions.entry.bytes.now needs.new 0 }
 {
-    let mut at = bytes.len();
-    while at > 0 {
-        at -= 1;
-        needs[at] = need_at(bytes, ends, starts, needs, at);
+    for at in (0..expressions.bytes.len()).rev() {
+        let word = Needs {
+            expressions,
+            starts,
+            words: needs,
+        }
+        .need_word(at);
+        needs[at] = word;
     }
 }

@@ -1,16 +1,17 @@
 ghost use Rattle.std.specs.Prelude.{◌+◌, ◌≤◌, length};
 ghost use Rattle.reading.specs.Tables.{ReadOr};
 
-use super::bodies::bodies_fit;
-use super::ends::fill_ends;
+use super::ends::{EndTable, fill_ends};
+use super::expressions::Expressions;
 use super::functions::find_functions;
-use super::needs::fill_needs;
+use super::needs::{Needs, fill_needs};
 
 // A program has at most so many bytes.
 pub const MAX_BYTES: usize = 4096;
 
 // Reads a program: how many functions it has, or that the bytes are none.
 // The tables say afterwards where each expression ends and where each function starts.
+// They come apart: the words are lent to be filled, and a struct that keeps what they say would not hold before.
 pub fn read_program(
     bytes: &[u8],
     ends: &mut [u32],
@@ -26,15 +27,14 @@ pub fn read_program(
         return None;
     }
     fill_ends(bytes, ends);
-    match find_functions(bytes, ends, starts) {
-        Some(n) => {
-            fill_needs(bytes, ends, &starts[0..n], needs);
-            if bodies_fit(bytes, &starts[0..n], needs) {
-                Some(n)
-            } else {
-                None
-            }
-        }
-        None => None,
-    }
+    let n = find_functions(&EndTable { bytes, ends }, starts)?;
+    let starts = &starts[0..n];
+    let expressions = Expressions { bytes, ends };
+    fill_needs(expressions, starts, needs);
+    let needs = Needs {
+        expressions,
+        starts,
+        words: needs,
+    };
+    if needs.bodies_fit() { Some(n) } else { None }
 }

@@ -14,13 +14,13 @@ use Rattle.readable.proofs.Lexing.{number_ends, lex_is}
 
 -- a tree that is a number is its numeral
 after_some : (o : Option ℕ) (n : ℕ) → after o ≡ Some n → (m : ℕ) × (o ≡ Some m) × (n ≡ suc m)
-after_some None n e = let z : ◌≡◌ {A = ℕ} 0 1 = cc in absurd (omega arith)
+after_some None n e = absurd (cc)
 after_some (Some m) n e = (m, refl, cc)
 
 pub number_is : (t : Tree) (n : ℕ) → as_number t ≡ Some n → numeral n ≡ t
 number_is leaf n e = let z : n ≡ 0 = cc in ap numeral z
 number_is (node leaf r) n e = let s = after_some (as_number r) n e in ap numeral s.2 ∙ ap (node leaf) (number_is r s.0 s.1)
-number_is (node (node a b) r) n e = let z : ◌≡◌ {A = ℕ} 0 1 = cc in absurd (omega arith)
+number_is (node (node a b) r) n e = absurd (cc)
 
 -- what is picked means the tree
 node_means : (l r : Tree) (o m : Option ℕ) (a : Syntax) (is : Items) → ((n : ℕ) → o ≡ Some n → numeral n ≡ node l r) → ((n : ℕ) → m ≡ Some n → numeral n ≡ r) → tree_of a ≡ l → tree_of_all is ≡ r → tree_of (pick_node o m a is) ≡ node l r
@@ -85,13 +85,13 @@ lex_decimal (suc m) x ks n e =
     some_digits (d ∷ ds) h = omega arith
 
 space_no : (d : ℕ) → kind 32 ≡ Digit d → ⊥
-space_no d e = let z : ◌≡◌ {A = ℕ} 0 1 = cc in omega arith
+space_no d e = cc
 
 close_no : (d : ℕ) → kind 41 ≡ Digit d → ⊥
-close_no d e = let z : ◌≡◌ {A = ℕ} 0 1 = cc in omega arith
+close_no d e = cc
 
 rest_no : (is : Items) (x : List ℕ) → NoDigit (text_rest is x)
-rest_no empty x = λ d e. let z : ◌≡◌ {A = ℕ} 0 1 = cc in omega arith
+rest_no empty x = λ d e. cc
 rest_no (item a is) x = space_no
 
 -- the tokens of a text are those of its syntax

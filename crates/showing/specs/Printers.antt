@@ -1,74 +1,100 @@
 -- A printer: what is to be printed next, and behind it what the frames on its stack say.
-use Rattle.std.specs.Prelude.{◌≡◌, ℕ, zero, suc, ◌+◌, ◌<◌, ◌≤◌, List, [], ◌∷◌, ◌++◌, length, take, slice_index_or}
-use Rattle.arena.specs.Nodes.{tree, Sound}
+use Rattle.std.specs.Prelude.{◌≡◌, ℕ, ◌+◌, ◌<◌, ◌≤◌, List, [], ◌∷◌, ◌++◌, length, Some, None, Option, unwrap_or}
+use Rattle.lang.specs.Program.{Tree}
+use Rattle.lent.specs.declared.output.Output.{Output}
+use Rattle.lent.specs.Output.{written}
+use Rattle.arena.specs.Nodes.{tree}
+use Rattle.arena.specs.declared.nodes.NodeId.{NodeId}
 use Rattle.showing.specs.declared.Frame.{Frame}
 use Rattle.showing.specs.declared.Frame.TheVariants.{Rest, Second}
-use Rattle.showing.specs.declared.Turn.{Turn}
-use Rattle.showing.specs.declared.Turn.TheVariants.{Item, Ended}
 use Rattle.showing.specs.declared.Printer.{Printer}
-use Rattle.showing.specs.Shown.{as_number, pick, pick_all, decimal, text, text_rest}
-use Rattle.showing.specs.Numbers.{or_zero, Numbers}
+use Rattle.showing.specs.Shown.{as_number, pick, pick_all, decimal, text, text_rest, Shows}
+use Rattle.showing.specs.Numbers.{Numbers}
 
 -- the rest of a list; or the second of a pair, a number, and the closing bracket; and then another text
 abbrev pub frame_text : List ℕ → Frame → List ℕ → List ℕ
 frame_text ws (Rest r) x = text_rest (pick_all (tree ws r.0)) x
-frame_text ws (Second r) x = 32 ∷ (decimal (or_zero (as_number (tree ws r.0))) ++ (41 ∷ x))
+frame_text ws (Second r) x = 32 ∷ (decimal (unwrap_or (as_number (tree ws r.0)) 0) ++ (41 ∷ x))
 
--- what the first n frames of a stack say, the newest, which is the last, first
-abbrev pub frames_text : List ℕ → List Frame → ℕ → List ℕ
-frames_text ws st zero = []
-frames_text ws st (suc n) = frame_text ws (slice_index_or st n (Rest (record { 0 = 0 }))) (frames_text ws st n)
+-- what the frames of a stack say, the newest first
+abbrev pub frames_text : List ℕ → List Frame → List ℕ
+frames_text ws [] = []
+frames_text ws (f ∷ fs) = frame_text ws f (frames_text ws fs)
 
-abbrev pub turn_text : List ℕ → Turn → List ℕ → List ℕ
-turn_text ws (Item n) x = text (pick (tree ws n.0)) x
-turn_text ws Ended x = x
+-- the item that comes next, if there is one
+abbrev pub next_text : List ℕ → Option NodeId → List ℕ → List ℕ
+next_text ws (Some n) x = text (pick (tree ws n.0)) x
+next_text ws None x = x
 
-abbrev pub written : Printer → List ℕ
-written p = take p.at p.out.now
+abbrev pub to_come : Printer → Option NodeId → List ℕ
+to_come p next = next_text p.tree.nodes.now next (frames_text p.tree.nodes.now p.stack.now.items)
 
-abbrev pub to_come : Printer → Turn → List ℕ
-to_come p t = turn_text p.nodes.now t (frames_text p.nodes.now p.stack.now p.height)
+-- the same where a frame that was taken off comes next
+abbrev pub frame_to_come : Printer → Frame → List ℕ
+frame_to_come p f = frame_text p.tree.nodes.now f (frames_text p.tree.nodes.now p.stack.now.items)
 
-abbrev pub whole : Printer → Turn → List ℕ
-whole p t = written p ++ to_come p t
+-- how many bytes can be written in all
+abbrev pub size : Printer → ℕ
+size p = length p.out.now.bytes.now
 
--- a frame's node is there, and so much below the end of the stack as it is high in it; a pair's second is a number
+-- the numbers of all nodes are found
+pub record Found (ws : List ℕ) (last : ℕ) (vs : List ℕ) : Type 0 where
+  pub numbers : Numbers ws last vs
+  pub there : last ≤ length vs
+
 abbrev pub node_of : Frame → ℕ
 node_of (Rest r) = r.0
 node_of (Second r) = r.0
 
-abbrev pub Counted : List ℕ → Frame → Type 0
-Counted ws (Rest r) = Unit {0}
-Counted ws (Second r) = 0 < or_zero (as_number (tree ws r.0))
-
-pub record Framed (ws : List ℕ) (last long : ℕ) (j : ℕ) (f : Frame) : Type 0 where
+-- a frame's node is there, and so much below the stack's capacity as there are frames below it
+pub record Framed (last capacity below : ℕ) (f : Frame) : Type 0 where
   pub there : node_of f ≤ last
-  pub low : node_of f + j < long
-  pub counted : Counted ws f
+  pub low : node_of f + below < capacity
+
+abbrev pub AllFramed : ℕ → ℕ → List Frame → Type 0
+AllFramed last capacity [] = Unit {0}
+AllFramed last capacity (f ∷ fs) = Framed last capacity (length fs) f × AllFramed last capacity fs
 
 -- and so is the next item's
-abbrev pub Next : Printer → Turn → Type 0
-Next p (Item n) = (n.0 ≤ p.last.0) × (n.0 + p.height ≤ length p.stack.now)
-Next p Ended = p.height ≤ length p.stack.now
+abbrev pub Next : Printer → Option NodeId → Type 0
+Next p (Some n) = (n.0 ≤ p.tree.root.0) × (n.0 + length p.stack.now.items ≤ p.stack.now.capacity)
+Next p None = Unit {0}
 
-pub record Printing (p : Printer) (t : Turn) : Type 0 where
-  pub sound : Sound p.nodes.now p.last.0
-  pub numbers : Numbers p.nodes.now p.last.0 p.values.now
-  pub there : p.last.0 ≤ length p.values.now
-  pub within : p.at ≤ length p.out.now
-  pub next : Next p t
-  pub frames : (j : ℕ) → j < p.height → Framed p.nodes.now p.last.0 (length p.stack.now) j (slice_index_or p.stack.now j (Rest (record { 0 = 0 })))
+pub record Printing (p : Printer) (n : Option NodeId) : Type 0 where
+  pub found : Found p.tree.nodes.now p.tree.root.0 p.values.now
+  pub next : Next p n
+  pub frames : AllFramed p.tree.root.0 p.stack.now.capacity p.stack.now.items
 
--- the bytes v stand behind the first `at` of out, up to k
-pub record Placed (out : List ℕ) (at : ℕ) (out' : List ℕ) (k : ℕ) (v : List ℕ) : Type 0 where
-  pub long : k ≡ at + length v
-  pub within : k ≤ length out
-  pub bytes : take k out' ≡ take at out ++ v
+-- a frame was taken off
+pub record Framing (p : Printer) (f : Frame) : Type 0 where
+  pub found : Found p.tree.nodes.now p.tree.root.0 p.values.now
+  pub framed : Framed p.tree.root.0 p.stack.now.capacity (length p.stack.now.items) f
+  pub frames : AllFramed p.tree.root.0 p.stack.now.capacity p.stack.now.items
 
--- some of the text was printed, and the printer goes on with t'
-pub record Printed (p : Printer) (t : Turn) (p' : Printer) (t' : Turn) : Type 0 where
-  pub name : p'.out.ghost_name ≡ p.out.ghost_name
-  pub long : length p'.out.now ≡ length p.out.now
-  pub printing : Printing p' t'
-  pub same : whole p' t' ≡ whole p t
-  pub less : length (to_come p' t') < length (to_come p t)
+-- the memory lent is the same
+pub record Kept (p p' : Printer) : Type 0 where
+  pub out_same : p'.out.ghost_name ≡ p.out.ghost_name
+  pub memory_same : p'.out.now.bytes.ghost_name ≡ p.out.now.bytes.ghost_name
+  pub size_same : size p' ≡ size p
+
+-- some of the text x was printed, and the printer goes on with the rest
+pub record Printed (x : List ℕ) (p p' : Printer) (next : Option NodeId) : Type 0 where
+  pub kept : Kept p p'
+  pub printing : Printing p' next
+  pub same : written p'.out.now ++ to_come p' next ≡ written p.out.now ++ x
+  pub less : length (to_come p' next) < length x
+
+-- or it does not fit
+abbrev pub Overlong : List ℕ → Printer → Type 0
+Overlong x p = size p < length (written p.out.now ++ x)
+
+-- the whole text x was printed
+pub record PrintedInto (x : List ℕ) (p p' : Printer) (k : ℕ) : Type 0 where
+  pub kept : Kept p p'
+  pub count : k ≡ p'.out.now.len
+  pub all : written p'.out.now ≡ written p.out.now ++ x
+
+-- the tree is shown, into the same memory
+pub record ShownInto (t : Tree) (o o' : Output) (k : ℕ) : Type 0 where
+  pub same_memory : o'.bytes.ghost_name ≡ o.bytes.ghost_name
+  pub shows : Shows t o'.bytes.now k

@@ -1,7 +1,8 @@
 -- What a tree is shown as.
-use Rattle.std.specs.Prelude.{◌≡◌, ℕ, zero, suc, ◌+◌, ◌≤◌, List, [], ◌∷◌, ◌++◌, map, length, take, Some, None, Option}
+use Rattle.std.specs.Prelude.{◌≡◌, ℕ, zero, suc, ◌+◌, ◌<◌, ◌≤◌, ◌⊎◌, List, [], ◌∷◌, ◌++◌, map, length, take, Some, None, Option}
 use Rattle.std.specs.Int.Digits.{digits_of}
 use Rattle.lang.specs.Program.{Tree, leaf, node}
+use Rattle.lang.specs.Bytes.{bytes_of_tree}
 use Rattle.readable.specs.Text.{Stands}
 use Rattle.readable.specs.Syntax.{Syntax, dot, number, pair, list, Items, empty, item}
 
@@ -62,3 +63,7 @@ pub record Shows (t : Tree) (out : List ℕ) (k : ℕ) : Type 0 where
   pub text_is : take k out ≡ shown t
   pub stands : Stands (take k out) t
   pub only : (u : Tree) → Stands (take k out) u → u ≡ t
+
+-- the memory for the tree's text, for what reading that text needs, or for the tree's bytes is too short
+abbrev pub TooShort : Tree → ℕ → ℕ → ℕ → Type 0
+TooShort t text symbols out = (text < length (shown t)) ⊎ ((symbols < length (shown t) + 2) ⊎ (out < length (bytes_of_tree t)))

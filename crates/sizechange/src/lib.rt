@@ -4,36 +4,26 @@
 ghost use Rattle.sizechange.specs.Theorems.{NoEndlessChain, FiniteWays, ClosedIsAll, DifferentAreFewer, OneNumber, Decided};
 
 // With the reason no chain of states is endless.
-pub fn no_endless_chain() -> u8
+pub fn no_endless_chain()
     ensures { NoEndlessChain }
-{
-    0
-}
+{}
 
 // There is a list of all ways.
-pub fn finite_ways() -> u8
+pub fn finite_ways()
     ensures { FiniteWays }
-{
-    0
-}
+{}
 
 // A closed list of different ways is all of them.
-pub fn closed_is_all() -> u8
+pub fn closed_is_all()
     ensures { ClosedIsAll }
-{
-    0
-}
+{}
 
 // The number of ways is a fact about the call graph, and no list of different ways is longer.
-pub fn one_number() -> u8
+pub fn one_number()
     ensures { DifferentAreFewer × OneNumber }
-{
-    0
-}
+{}
 
 // From the list of all ways it is decided whether there is the reason.
-pub fn decided() -> u8
+pub fn decided()
     ensures { Decided }
-{
-    0
-}
+{}

@@ -1,17 +1,26 @@
 -- Reading and writing rows.
-use Rattle.std.proofs.Common.{◌≡◌, ℕ, zero, suc, ◌+◌, ◌*◌, ◌/◌, ◌%◌, ◌^◌, ◌<◌, ◌≤◌, ◌≢◌, ◌⊎◌, List, [], ◌∷◌, ◌++◌, length, get_or, set, sym, refl, ap, ◌∙◌, subst, ap₂, inl, inr, add-one, arith, lit<}
+use Rattle.std.proofs.Common.{◌≡◌, ℕ, zero, suc, ◌+◌, ◌*◌, ◌/◌, ◌%◌, ◌^◌, ◌<◌, ◌≤◌, ◌≢◌, ◌⊎◌, List, [], ◌∷◌, ◌++◌, length, get_or, set, sym, refl, ap, ◌∙◌, ap₂, inl, inr, add-one, arith, lit<}
 use Rattle.std.proofs.lemmas.List.{length-set, get_or-set_same, get_or-set_other, length_push}
 use mathlib.Core.Option.{some}
+use mathlib.Core.HLevel.{is_prop→PathP}
+use native.Mathlib.Bridge.{le_prop}
 use Rattle.sizechange.specs.Graph.{In, nth}
 use Rattle.sizechange.proofs.Lists.{nth_below}
 use Rattle.sizechange.proofs.Arcs.{in_cons, in_at, in_left, in_right, in_append}
 use Rattle.std.proofs.lemmas.Bool.{cases_lt, cases_eq}
 use Rattle.table.specs.declared.Edge.{Edge}
-use Rattle.table.specs.declared.Row.{Row}
-use Rattle.table.specs.Rows.{Ends, SameRow, cell, edge_of, row_at, link_at, rows}
+use Rattle.table.specs.declared.row.Row.{Row}
+use Rattle.table.specs.Ends.{Ends}
+use Rattle.table.specs.Rows.{SameRow, cell, edge_of, row_at, rows}
 
 pub edge_path : (e d : Edge) → e.caller ≡ d.caller → e.callee ≡ d.callee → e.graph.any ≡ d.graph.any → e.graph.part ≡ d.graph.part → e ≡ d
 edge_path e d p q r s = λ i. record { caller = p i; callee = q i; graph = record { any = r i; part = s i } }
+
+ends_prop : (e : Edge) → IsProp (Ends e)
+ends_prop e a b = λ i. record { caller_below = le_prop a.caller_below b.caller_below i; callee_below = le_prop a.callee_below b.callee_below i }
+
+pub row_path : (q r : Row) → q.edge ≡ r.edge → q.from ≡ r.from → q.step ≡ r.step → q ≡ r
+row_path q r e f s = λ i. record { edge = e i; from = f i; step = s i; ends = is_prop→PathP (λ i. Ends (e i)) (λ i. ends_prop (e i)) q.ends r.ends i }
 
 -- words written one after another, the first at `at + n`
 abbrev write : List ℕ → ℕ → ℕ → List ℕ → List ℕ
@@ -48,24 +57,19 @@ module _ (xs : List ℕ) (k : ℕ) (r : Row) (a b c d l : ℕ) (h : 8 * k + 8 �
   cell_at : (p : ℕ) → p < 8 → cell ys k (0 + p) ≡ get_or (row_words r a b c d l) p 0
   cell_at p lt = write_at xs (8 * k) 0 (row_words r a b c d l) p (omega arith) lt
 
-  written_edge : Ends r.edge → a ≡ r.edge.graph.any % 2 ^ 32 → b ≡ r.edge.graph.any / 2 ^ 32 → c ≡ r.edge.graph.part % 2 ^ 32 → d ≡ r.edge.graph.part / 2 ^ 32 → edge_of ys k ≡ r.edge
+  written_edge : a ≡ r.edge.graph.any % 2 ^ 32 → b ≡ r.edge.graph.any / 2 ^ 32 → c ≡ r.edge.graph.part % 2 ^ 32 → d ≡ r.edge.graph.part / 2 ^ 32 → edge_of ys k ≡ r.edge
   unfolding edge_of
-  written_edge e pa pb pc pd =
-      let hc = e.caller_below in
-      let hd = e.callee_below in
+  written_edge pa pb pc pd =
+      let hc = r.ends.caller_below in
+      let hd = r.ends.callee_below in
       edge_path (edge_of ys k) r.edge
       (ap (λ (x : ℕ). x / 64 % 64) (cell_at 4 (lit< tt)) ∙ omega arith)
       (ap (λ (x : ℕ). x % 64) (cell_at 4 (lit< tt)) ∙ omega arith)
       (omega (arith, cell_at 0 (lit< tt), cell_at 1 (lit< tt), pa, pb))
       (omega (arith, cell_at 2 (lit< tt), cell_at 3 (lit< tt), pc, pd))
 
-  pub written_row : Ends r.edge → a ≡ r.edge.graph.any % 2 ^ 32 → b ≡ r.edge.graph.any / 2 ^ 32 → c ≡ r.edge.graph.part % 2 ^ 32 → d ≡ r.edge.graph.part / 2 ^ 32 → row_at ys k ≡ r
-  written_row e pa pb pc pd =
-      let p = written_edge e pa pb pc pd in
-      λ i. record { edge = p i; from = cell_at 5 (lit< tt) i; step = cell_at 6 (lit< tt) i }
-
-  pub written_link : link_at ys k ≡ l
-  written_link = cell_at 7 (lit< tt)
+  pub written_row : a ≡ r.edge.graph.any % 2 ^ 32 → b ≡ r.edge.graph.any / 2 ^ 32 → c ≡ r.edge.graph.part % 2 ^ 32 → d ≡ r.edge.graph.part / 2 ^ 32 → row_at ys k ≡ r
+  written_row pa pb pc pd = row_path (row_at ys k) r (written_edge pa pb pc pd) (cell_at 5 (lit< tt)) (cell_at 6 (lit< tt))
 
   cell_other : (j p : ℕ) → (j ≡ k → ⊥) → p < 8 → cell ys j p ≡ cell xs j p
   cell_other j p ne lt = write_other xs (8 * k) 0 (row_words r a b c d l) (8 * j + p) (elim (cases_lt j k) [ inl m ↦ inl (omega arith) | inr m ↦ inr (omega arith) ])
@@ -81,9 +85,7 @@ module _ (xs : List ℕ) (k : ℕ) (r : Row) (a b c d l : ℕ) (h : 8 * k + 8 �
       (ap₂ (λ (x y : ℕ). x + y * 2 ^ 32) (s 2 (lit< tt)) (s 3 (lit< tt)))
 
   pub written_other : (j : ℕ) → (j ≡ k → ⊥) → SameRow xs ys j
-  written_other j ne =
-      let p = edge_other j ne in
-      record { row = λ i. record { edge = p i; from = cell_other j 5 ne (lit< tt) i; step = cell_other j 6 ne (lit< tt) i }; link = cell_other j 7 ne (lit< tt) }
+  written_other j ne = record { row = row_path (row_at ys j) (row_at xs j) (edge_other j ne) (cell_other j 5 ne (lit< tt)) (cell_other j 6 ne (lit< tt)); link = cell_other j 7 ne (lit< tt) }
 
 -- Tables as lists of rows.
 
@@ -114,10 +116,6 @@ rows_in xs (suc n) {r} i = go (in_append (rows xs n) (row_at xs n ∷ []) i) (ro
 pub rows_push : (xs ys : List ℕ) (n : ℕ) (r : Row) → ((j : ℕ) → (j ≡ n → ⊥) → SameRow xs ys j) → row_at ys n ≡ r → rows ys (n + 1) ≡ rows xs n ++ r ∷ []
 rows_push xs ys n r s p = rw add-one (ap₂ (λ (us : List Row) (q : Row). us ++ q ∷ []) (rows_same xs ys n (λ j l. (s j (λ z. omega arith)).row)) p)
 
--- a row that is written where it stands already
-pub rows_again : (ws xs ys : List ℕ) (k : ℕ) (r : Row) → ((j : ℕ) → row_at xs j ≡ row_at ws j) → r ≡ row_at xs k → row_at ys k ≡ r → ((j : ℕ) → (j ≡ k → ⊥) → row_at ys j ≡ row_at xs j) → (j : ℕ) → row_at ys j ≡ row_at ws j
-rows_again ws xs ys k r old is new others j = elim (cases_eq j k) [ inl z ↦ ap (row_at ys) z ∙ new ∙ is ∙ ap (row_at xs) (sym z) ∙ old j | inr z ↦ others j z ∙ old j ]
-
 -- Rows by their places.
 
 nth_left : {A : Type 0} (xs ys : List A) (i : ℕ) → i < length xs → nth (xs ++ ys) i ≡ nth xs i
@@ -146,12 +144,6 @@ rows_nth xs n i {r} e =
     let is = nth_rows xs n i l in
     let p : row_at xs i ≡ r = cc in
     (l, p)
-
-pub rows_ends : (xs : List ℕ) (n : ℕ) (t : Row) → In t (rows xs n) → Ends t.edge
-unfolding edge_of
-rows_ends xs n t i =
-    let (j, l, e) = rows_in xs n i in
-    subst (λ (r : Row). Ends r.edge) e (record { caller_below = omega arith; callee_below = omega arith })
 
 -- what stands in a list with one more at its end
 pub nth_push : {A : Type 0} (xs : List A) (x : A) (i : ℕ) {y : A} → nth (xs ++ x ∷ []) i ≡ some y → (nth xs i ≡ some y) ⊎ ((i ≡ length xs) × (x ≡ y))

@@ -2,8 +2,9 @@
 use Rattle.std.specs.Prelude.{◌≡◌, ℕ, suc, ◌+◌, ◌*◌, ◌/◌, ◌%◌, ◌^◌, ◌<◌, ◌≤◌, ◌⊎◌, List, [], ◌∷◌, ◌++◌, length, ◌≢◌, slice_index}
 use Rattle.sizechange.specs.Graph.{In}
 use Rattle.table.specs.declared.Edge.{Edge}
-use Rattle.table.specs.declared.Row.{Row}
-use Rattle.table.specs.Rows.{edge_of, link_at, points}
+use Rattle.table.specs.declared.row.Row.{Row}
+use Rattle.table.specs.Ends.{points}
+use Rattle.table.specs.Rows.{edge_of, link_at}
 
 -- the chain of an edge among n: any function of both would do; this one spreads the edges well
 unfoldable pub bucket_of : Edge → ℕ → ℕ
@@ -15,21 +16,16 @@ pub record Last (f : ℕ → ℕ) (n b h : ℕ) : Type 0 where
   pub here : (j : ℕ) → h ≡ suc j → f j ≡ b
   pub after : (j : ℕ) → h ≤ j → j < n → f j ≢ b
 
--- the first n rows are chained: each chain begins at its last row, and a row links to the last before it of its chain
+-- the first n rows are in h chains: each begins at its last row, and a row links to the last before it of its chain
 abbrev pub bucket : List ℕ → ℕ → ℕ → ℕ
 bucket xs h j = bucket_of (edge_of xs j) h
 
-pub record Chained (xs heads : List ℕ) (n : ℕ) : Type 0 where
-  pub some_heads : 0 < length heads
-  pub few_heads : length heads ≤ 2 ^ 32
-  pub heads_last : (b : ℕ) → b < length heads → Last (bucket xs (length heads)) n b (slice_index heads b)
-  pub links_last : (j : ℕ) → j < n → Last (bucket xs (length heads)) j (bucket xs (length heads) j) (link_at xs j)
-
--- the place of e among the first n rows, or n where it is not there
-pub record Found (xs : List ℕ) (n : ℕ) (e : Edge) (r : ℕ) : Type 0 where
-  pub most : r ≤ n
-  pub here : r < n → edge_of xs r ≡ e
-  pub nowhere : n ≤ r → (j : ℕ) → j < n → edge_of xs j ≢ e
+pub record Chained (xs heads : List ℕ) (h n : ℕ) : Type 0 where
+  pub some_heads : 0 < h
+  pub few_heads : h ≤ 2 ^ 32
+  pub within : h ≤ length heads
+  pub heads_last : (b : ℕ) → b < h → Last (bucket xs h) n b (slice_index heads b)
+  pub links_last : (j : ℕ) → j < n → Last (bucket xs h) j (bucket xs h j) (link_at xs j)
 
 -- a list of rows has an edge
 abbrev pub Has : List Row → Edge → Type 0

@@ -1,14 +1,13 @@
 -- What the words of a table say.
-use Rattle.std.specs.Prelude.{◌≡◌, ℕ, zero, suc, ◌+◌, ◌*◌, ◌/◌, ◌%◌, ◌^◌, ◌<◌, List, [], ◌∷◌, ◌++◌, slice_index}
+use Rattle.std.specs.Prelude.{◌≡◌, ℕ, zero, suc, ◌+◌, ◌*◌, ◌/◌, ◌%◌, ◌^◌, List, [], ◌∷◌, ◌++◌, slice_index}
+use Rattle.std.proofs.Common.{arith}
 use Rattle.table.specs.declared.Edge.{Edge}
-use Rattle.table.specs.declared.Row.{Row}
+use Rattle.table.specs.declared.row.Row.{Row}
+use Rattle.table.specs.Ends.{Ends, points}
 
--- how many words a row has, and how many points there are
+-- how many words a row has
 abbrev pub width : ℕ
 width = 8
-
-abbrev pub points : ℕ
-points = 64
 
 -- word p of row k
 abbrev pub cell : List ℕ → ℕ → ℕ → ℕ
@@ -22,8 +21,13 @@ edge_of xs k = record {
   graph = record { any = cell xs k 0 + cell xs k 1 * 2 ^ 32; part = cell xs k 2 + cell xs k 3 * 2 ^ 32 };
 }
 
+-- both ends that a row says are points
+pub ends_of : (xs : List ℕ) (k : ℕ) → Ends (edge_of xs k)
+unfolding edge_of
+ends_of xs k = record { caller_below = omega arith; callee_below = omega arith }
+
 abbrev pub row_at : List ℕ → ℕ → Row
-row_at xs k = record { edge = edge_of xs k; from = cell xs k 5; step = cell xs k 6 }
+row_at xs k = record { edge = edge_of xs k; from = cell xs k 5; step = cell xs k 6; ends = ends_of xs k }
 
 abbrev pub link_at : List ℕ → ℕ → ℕ
 link_at xs k = cell xs k 7
@@ -32,11 +36,6 @@ link_at xs k = cell xs k 7
 abbrev pub rows : List ℕ → ℕ → List Row
 rows xs zero = []
 rows xs (suc n) = rows xs n ++ row_at xs n ∷ []
-
--- both ends are points
-pub record Ends (e : Edge) : Type 0 where
-  pub caller_below : e.caller < points
-  pub callee_below : e.callee < points
 
 -- row j is the same in both
 pub record SameRow (xs ys : List ℕ) (j : ℕ) : Type 0 where

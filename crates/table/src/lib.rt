@@ -1,11 +1,17 @@
 //! Edges of a call graph in lent words, eight a row, each found by its hash chain.
 #![tactic(auto)]
 
-ghost use Rattle.std.specs.Prelude.{◌≡◌, ℕ, ◌+◌, ◌*◌, ◌/◌, ◌%◌, ◌^◌, ◌<◌, ◌≤◌, List, [], ◌∷◌, ◌++◌, length, Decides, ◌≢◌, slice_index};
-ghost use Rattle.table.specs.Index.{Added, Chained, Found, bucket_of};
-ghost use Rattle.table.specs.Rows.{Ends, SameRow, link_at, row_at, rows as list, width};
+ghost use Rattle.std.specs.Prelude.{◌≡◌, ℕ, ◌+◌, ◌*◌, ◌/◌, ◌%◌, ◌^◌, ◌<◌, ◌≤◌, List, [], ◌∷◌, ◌++◌, length, ◌≢◌, slice_index};
+ghost use Rattle.table.specs.Index.{Added, Chained, bucket_of};
+ghost use Rattle.table.specs.Rows.{SameRow, link_at, row_at, rows as list, width};
+ghost use Rattle.table.specs.Tables.{Found, IsChained, IsSameMemory, list_of};
 
 use graphs::Graph;
+pub use row::Row;
+pub use slice::RowSlice;
+
+mod row;
+mod slice;
 
 /// Points of the call graph.
 pub const POINTS: u32 = 64;
@@ -37,33 +43,26 @@ const SPREAD_ENDS: u64 = 0x1656_67B1_9E37_79F9;
 const HALF: u64 = 0x1_0000_0000;
 
 /// A way from point to point with its size-change graph.
-#[derive(Clone, Copy)]
+#[derive(Clone, Copy, Debug, PartialEq)]
 pub struct Edge {
     pub caller: u32,
     pub callee: u32,
     pub graph: Graph,
 }
 
-/// An edge, one more than the way that it came from (0: none), and the step that was last.
-#[derive(Clone, Copy)]
-pub struct Row {
-    pub edge: Edge,
-    pub from: u32,
-    pub step: u32,
-}
-
 /// Two words as one.
+// by hand, here and in `low` and `high`: std has no conversion between a word and its halves
 fn word(low: u32, high: u32) -> u64
     ensures { result ≡ low + high * 2 ^ 32 }
 {
     low as u64 + high as u64 * HALF
 }
 
-/// The edge of row k.
+/// The edge of row k; its ends are points, as the row says.
+// That a row lies within the words, here and in `row_at` and `put`, is an index's bound and belongs to no type.
 pub fn edge_at(rows: &[u32], k: usize) -> Edge
     requires { width * k + width ≤ length rows.now }
-    ensures is { result ≡ (row_at rows.now k).edge }
-    ensures ends { Ends result }
+    ensures { result ≡ (row_at rows.now k).edge }
 {
     let at = WIDTH * k;
     let ends = rows[at + ENDS];
@@ -80,8 +79,7 @@ pub fn edge_at(rows: &[u32], k: usize) -> Edge
 /// Row k.
 pub fn row_at(rows: &[u32], k: usize) -> Row
     requires { width * k + width ≤ length rows.now }
-    ensures is { result ≡ row_at rows.now k }
-    ensures ends { Ends result.edge }
+    ensures { result ≡ row_at rows.now k }
 {
     let at = WIDTH * k;
     Row {
@@ -108,7 +106,6 @@ fn high(x: u64) -> u32
 /// Writes row k and its link.
 pub fn put(rows: &mut [u32], k: usize, row: Row, link: u32)
     requires room { width * k + width ≤ length rows.old }
-    requires ends { Ends row.edge }
     ensures new { row_at rows.new k ≡ row }
     ensures link { link_at rows.new k ≡ link }
     ensures others { (j : ℕ) → (j ≢ k) → SameRow rows.old rows.new j }
@@ -126,21 +123,11 @@ pub fn put(rows: &mut [u32], k: usize, row: Row, link: u32)
     rows[at + LINK] = link;
 }
 
-/// The same ends and the same graph.
-fn same(a: Edge, b: Edge) -> bool
-    ensures { Decides result (a ≡ b) }
-{
-    a.caller == b.caller
-        && a.callee == b.callee
-        && a.graph.any == b.graph.any
-        && a.graph.part == b.graph.part
-}
-
 /// The chain of an edge: the high bits of a product, scaled to the number of chains.
-fn chain(e: Edge, heads: usize) -> usize
-    requires { (0 < heads) × (heads ≤ 2 ^ 32) }
-    ensures is { result ≡ bucket_of e heads }
-    ensures below { result < heads }
+fn chain(e: Edge, chains: usize) -> usize
+    requires { (0 < chains) × (chains ≤ 2 ^ 32) }
+    ensures is { result ≡ bucket_of e chains }
+    ensures below { result < chains }
 {
     let any = e.graph.any.wrapping_mul(SPREAD_ANY);
     let part = e.graph.part.wrapping_mul(SPREAD_PART);
@@ -148,89 +135,125 @@ fn chain(e: Edge, heads: usize) -> usize
     let mixed = any
         .wrapping_add(part)
         .wrapping_add(ends.wrapping_mul(SPREAD_ENDS));
-    ((mixed / HALF) * heads as u64 / HALF) as usize
+    ((mixed / HALF) * chains as u64 / HALF) as usize
 }
 
-/// The place of an edge among the first `count` rows, or `count` if it is not there.
-pub fn find(rows: &[u32], heads: &[u32], count: usize, e: Edge) -> usize
-    requires room { width * count ≤ length rows.now }
-    requires chained { Chained rows.now heads.now count }
-    ensures { Found rows.now count e result }
+/// Empties the first chains.
+fn empty(heads: &mut [u32], chains: usize)
+    requires { chains ≤ length heads.old }
+    ensures { (b : ℕ) → b < chains → slice_index heads.new b ≡ 0 }
 {
-    let mut at = heads[chain(e, heads.len())] as usize;
-    while at != 0 {
-        let k = at - 1;
-        if same(edge_at(rows, k), e) {
-            return k;
+    heads[..chains].fill(0);
+}
+
+/// The first `count` of the rows, each found by its chain; the chains begin at the first `chains` of the heads.
+// lent words and numbers beside them, and no Vec or map: where this runs there is no heap
+// That it is chained stays a clause: a table just made has no chains, and one of 2^32 rows has a last row that no chain finds. With these two as premises of a fact of the type the methods would ask for them instead.
+// That the memory is the same stays one too: it is about the table before and after, and no fact of one value says it.
+#[derive(Drop)]
+pub struct Table<'a> {
+    pub rows: &'a mut [u32],
+    pub heads: &'a mut [u32],
+    pub chains: usize,
+    pub count: usize,
+}
+
+impl Table<'_> {
+    /// Row k.
+    pub fn row(&self, k: usize) -> Row
+        requires { width * k + width ≤ length self.now.rows.now }
+        ensures { result ≡ row_at self.now.rows.now k }
+    {
+        row_at(self.rows, k)
+    }
+
+    /// The place of an edge among the rows.
+    pub fn find(&self, e: Edge) -> Option<usize>
+        requires { IsChained self.now }
+        ensures { Found self.now e result }
+    {
+        let mut at = self.heads[chain(e, self.chains)] as usize;
+        while let Some(k) = at.checked_sub(1) {
+            if edge_at(self.rows, k) == e {
+                return Some(k);
+            }
+            at = self.rows[WIDTH * k + LINK] as usize;
         }
-        at = rows[WIDTH * k + LINK] as usize;
+        None
     }
-    count
-}
 
-/// Writes row k as the first of its chain.
-/// The row that is one too many for a word to count is not found again.
-fn push(rows: &mut [u32], heads: &mut [u32], k: usize, row: Row)
-    requires room { width * k + width ≤ length rows.old }
-    requires chained { Chained rows.old heads.old k }
-    requires ends { Ends row.edge }
-    requires few { k < 2 ^ 32 }
-    ensures chained { k + 1 < 2 ^ 32 → Chained rows.new heads.new (k + 1) }
-    ensures new { row_at rows.new k ≡ row }
-    ensures others { (j : ℕ) → (j ≢ k) → row_at rows.new j ≡ row_at rows.old j }
-    ensures pushed { list rows.new (k + 1) ≡ list rows.old k ++ row ∷ [] }
-{
-    let b = chain(row.edge, heads.len());
-    put(rows, k, row, heads[b]);
-    heads[b] = (k as u32).wrapping_add(1);
-}
-
-/// Adds a row at the end, unless its edge is there; gives the number of rows after.
-pub fn add(rows: &mut [u32], heads: &mut [u32], count: usize, row: Row) -> usize
-    requires room { width * count + width ≤ length rows.old }
-    requires chained { Chained rows.old heads.old count }
-    requires ends { Ends row.edge }
-    requires few { count < 2 ^ 32 }
-    ensures chained { result < 2 ^ 32 → Chained rows.new heads.new result }
-    ensures kept { (j : ℕ) → j < count → row_at rows.new j ≡ row_at rows.old j }
-    ensures added { Added (list rows.old count) row (list rows.new result) }
-    ensures most { (count ≤ result) × (result ≤ count + 1) }
-{
-    if find(rows, heads, count, row.edge) < count {
-        return count;
+    /// Adds a row at the end, as the first of its chain.
+    /// The row that is one too many for a word to count is not found again.
+    fn push(&mut self, row: Row)
+        requires chained { IsChained self.old }
+        requires room { width * self.old.count + width ≤ length self.old.rows.now }
+        requires few { self.old.count < 2 ^ 32 }
+        ensures memory { IsSameMemory self.old self.new }
+        ensures chained { self.new.count < 2 ^ 32 → IsChained self.new }
+        ensures chains { self.new.chains ≡ self.old.chains }
+        ensures count { self.new.count ≡ self.old.count + 1 }
+        ensures new { row_at self.new.rows.now self.old.count ≡ row }
+        ensures others { (j : ℕ) → (j ≢ self.old.count) → row_at self.new.rows.now j ≡ row_at self.old.rows.now j }
+        ensures pushed { list_of self.new ≡ list_of self.old ++ row ∷ [] }
+    {
+        let b = chain(row.edge, self.chains);
+        let last = self.heads[b];
+        put(self.rows, self.count, row, last);
+        self.heads[b] = (self.count as u32).wrapping_add(1);
+        self.count += 1;
     }
-    push(rows, heads, count, row);
-    count + 1
-}
 
-/// Writes one word everywhere.
-pub fn fill(words: &mut [u32], word: u32)
-    ensures { (k : ℕ) → k < length words.new → slice_index words.new k ≡ word }
-{
-    for each in words.iter_mut() {
-        *each = word;
+    /// Adds a row at the end, unless its edge is there.
+    pub fn add(&mut self, row: Row)
+        requires chained { IsChained self.old }
+        requires room { width * self.old.count + width ≤ length self.old.rows.now }
+        requires few { self.old.count < 2 ^ 32 }
+        ensures memory { IsSameMemory self.old self.new }
+        ensures chained { self.new.count < 2 ^ 32 → IsChained self.new }
+        ensures chains { self.new.chains ≡ self.old.chains }
+        ensures kept { (j : ℕ) → j < self.old.count → row_at self.new.rows.now j ≡ row_at self.old.rows.now j }
+        ensures added { Added (list_of self.old) row (list_of self.new) }
+        ensures most { (self.old.count ≤ self.new.count) × (self.new.count ≤ self.old.count + 1) }
+    {
+        if self.find(row.edge).is_none() {
+            self.push(row);
+        }
     }
-}
 
-/// Empties the chains.
-pub fn clear(heads: &mut [u32])
-    requires { (0 < length heads.old) × (length heads.old ≤ 2 ^ 32) }
-    ensures { (xs : List ℕ) → Chained xs heads.new 0 }
-{
-    fill(heads, 0);
-}
+    /// Empties the table, for so many chains.
+    pub fn clear(&mut self, chains: usize)
+        requires some { 0 < chains }
+        requires within { chains ≤ length self.old.heads.now }
+        requires few { chains ≤ 2 ^ 32 }
+        ensures memory { IsSameMemory self.old self.new }
+        ensures chained { IsChained self.new }
+        ensures empty { (xs : List ℕ) → Chained xs self.new.heads.now chains 0 }
+        ensures chains { self.new.chains ≡ chains }
+        ensures count { self.new.count ≡ 0 }
+        ensures kept { self.new.rows.now ≡ self.old.rows.now }
+    {
+        empty(self.heads, chains);
+        self.chains = chains;
+        self.count = 0;
+    }
 
-/// Chains the first `count` rows anew, by as many chains as there are heads.
-pub fn rechain(rows: &mut [u32], heads: &mut [u32], count: usize)
-    requires room { width * count ≤ length rows.old }
-    requires heads { (0 < length heads.old) × (length heads.old ≤ 2 ^ 32) }
-    requires few { count < 2 ^ 32 }
-    ensures chained { Chained rows.new heads.new count }
-    ensures kept { (j : ℕ) → row_at rows.new j ≡ row_at rows.old j }
-{
-    clear(heads);
-    for k in 0..count {
-        let row = row_at(rows, k);
-        push(rows, heads, k, row);
+    /// The first `count` rows are the table's now, chained anew by so many chains.
+    pub fn rechain(&mut self, count: usize, chains: usize)
+        requires room { width * count ≤ length self.old.rows.now }
+        requires some { 0 < chains }
+        requires within { chains ≤ length self.old.heads.now }
+        requires few_chains { chains ≤ 2 ^ 32 }
+        requires few { count < 2 ^ 32 }
+        ensures memory { IsSameMemory self.old self.new }
+        ensures chained { IsChained self.new }
+        ensures chains { self.new.chains ≡ chains }
+        ensures count { self.new.count ≡ count }
+        ensures kept { (j : ℕ) → row_at self.new.rows.now j ≡ row_at self.old.rows.now j }
+    {
+        self.clear(chains);
+        for k in 0..count {
+            let row = self.row(k);
+            self.push(row);
+        }
     }
 }

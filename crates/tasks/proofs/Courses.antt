@@ -1,15 +1,14 @@
 -- From the task at the beginning to what is left of it: each turn of the interpreter goes on with a task that leads to the first.
-use Rattle.std.proofs.Common.{◌≡◌, ℕ, suc, ◌+◌, ◌-◌, ◌*◌, ◌<◌, ◌≤◌, Bool, true, false, List, map, length, get_or, take, drop, Some, sym, refl, ap, ◌∙◌, subst, subst₂, arith}
-use mathlib.Core.Path.{subst₃}
+use Rattle.std.proofs.Common.{◌≡◌, ℕ, suc, ◌+◌, ◌-◌, ◌*◌, ◌<◌, ◌≤◌, Bool, true, false, List, map, length, take, drop, Some, sym, refl, ◌∙◌, subst, subst₂, arith}
 use Rattle.lang.specs.Program.{Tree, Expr}
 use Rattle.lang.specs.Reads.{Reads, r_cons}
 use Rattle.reading.proofs.Heading.{Goes, g_parts, goes_at}
-use Rattle.arena.specs.Nodes.{tree, Grown, Well}
-use Rattle.lang.specs.Eval.{Outcome, inner}
+use Rattle.arena.specs.declared.nodes.NodeId.{NodeId}
+use Rattle.lang.specs.Eval.{Outcome, vals, inner}
 use Rattle.tasks.specs.declared.store.Store.{Store}
 use Rattle.tasks.specs.declared.text.Text.{Text}
 use Rattle.tasks.specs.Tasks.{Task, Stands, Says, Within, Leads}
-use Rattle.tasks.specs.Stores.{Ready, Moved, Held, Wide, come_to, mode, task, tasks, frame, room, floor}
+use Rattle.tasks.specs.Stores.{Ready, Moved, Held, Wide, mode, task, tasks, tree_of, frame, room, floor}
 use Rattle.tasks.proofs.Costs.{cost, within_less, leads_less, leads_stands, leads_says, leads_same, leads_more}
 use Rattle.reading.specs.declared.head.Head.TheVariants.{Var, Node, Parts, Call}
 use Rattle.reading.specs.Heads.{HeadAt}
@@ -22,6 +21,7 @@ use Rattle.tasks.proofs.Moves.{prepend, node_mode}
 pub record Course (s : List ℕ) (st0 : Store) (at0 base0 top0 depth0 : ℕ) (inside0 : Bool) (st : Store) (at base top depth : ℕ) (inside : Bool) : Type 0 where
   pub ready : Ready st base top
   pub wide : Wide s (length st.frames.now) at base top depth
+  pub stands : Stands s (task st at base top depth inside)
   pub moved : Moved (floor inside0 base0 top0) st0 st
   pub above : floor inside0 base0 top0 ≤ floor inside base top
   pub leads : Leads s 0 (task st at base top depth inside) (task st0 at0 base0 top0 depth0 inside0) (λ o. o)
@@ -35,27 +35,21 @@ floor_up true base top top1 h = h
 floor_up false base top top1 h = omega arith
 
 pub moved_weaken : (a b : ℕ) (st st1 : Store) → a ≤ b → Moved b st st1 → Moved a st st1
-moved_weaken a b st st1 l m = record { limit = m.limit; grown = m.grown; well = m.well; words = m.words; kept = λ j h. m.kept j (omega arith) }
+moved_weaken a b st st1 l m = record { limit = m.limit; grown = m.grown; words = m.words; kept = λ j h. m.kept j (omega arith) }
 
 module _ (s : List ℕ) (st0 : Store) (at0 base0 top0 depth0 : ℕ) (inside0 : Bool) where
-  pub course_start : Ready st0 base0 top0 → Wide s (length st0.frames.now) at0 base0 top0 depth0 → Course s st0 at0 base0 top0 depth0 inside0 st0 at0 base0 top0 depth0 inside0
-  course_start r w = record { ready = r; wide = w; moved = moved_same (floor inside0 base0 top0) st0 base0 top0 r; above = omega arith; leads = leads_same s (task st0 at0 base0 top0 depth0 inside0) }
+  pub course_start : Ready st0 base0 top0 → Wide s (length st0.frames.now) at0 base0 top0 depth0 → Stands s (task st0 at0 base0 top0 depth0 inside0) → Course s st0 at0 base0 top0 depth0 inside0 st0 at0 base0 top0 depth0 inside0
+  course_start r w h = record { ready = r; wide = w; stands = h; moved = moved_same (floor inside0 base0 top0) st0; above = omega arith; leads = leads_same s (task st0 at0 base0 top0 depth0 inside0) }
 
   module _ (st : Store) (at base top depth : ℕ) (inside : Bool) (c : Course s st0 at0 base0 top0 depth0 inside0 st at base top depth inside) where
-    pub course_stands : Stands s (task st0 at0 base0 top0 depth0 inside0) → Stands s (task st at base top depth inside)
-    course_stands h = leads_stands s 0 (task st at base top depth inside) (task st0 at0 base0 top0 depth0 inside0) (λ o. o) c.leads h
-
     pub course_says : (o : Outcome) → Says s (task st at base top depth inside) o → Says s (task st0 at0 base0 top0 depth0 inside0) o
     course_says o h = leads_says s 0 (task st at base top depth inside) (task st0 at0 base0 top0 depth0 inside0) (λ o. o) c.leads o h
-
-    -- what keeps the frame keeps what lies below the first floor
-    pub course_moved : (st1 : Store) → Moved top st st1 → Moved (floor inside0 base0 top0) st0 st1
-    course_moved st1 m = moved_then (floor inside0 base0 top0) top st0 st st1 c.moved m (let a = c.above in let b = floor_below inside base top c.ready.ordered in omega arith)
 
     pub course_step : (st1 : Store) (at1 base1 top1 depth1 : ℕ) (inside1 : Bool) → Ready st1 base1 top1 → Wide s (length st1.frames.now) at1 base1 top1 depth1 → Moved (floor inside base top) st st1 → floor inside base top ≤ floor inside1 base1 top1 → Leads s 1 (task st1 at1 base1 top1 depth1 inside1) (task st at base top depth inside) (λ o. o) → Course s st0 at0 base0 top0 depth0 inside0 st1 at1 base1 top1 depth1 inside1
     course_step st1 at1 base1 top1 depth1 inside1 r w m f l = record {
       ready = r;
       wide = w;
+      stands = leads_stands s 1 (task st1 at1 base1 top1 depth1 inside1) (task st at base top depth inside) (λ o. o) l c.stands;
       moved = moved_then (floor inside0 base0 top0) (floor inside base top) st0 st st1 c.moved m c.above;
       above = let a = c.above in omega arith;
       leads = leads_more s 1 0 (task st1 at1 base1 top1 depth1 inside1) (task st at base top depth inside) (task st0 at0 base0 top0 depth0 inside0) (λ o. o) (λ o. o) l c.leads;
@@ -73,16 +67,16 @@ pub course_falls : (x : Text) (st0 : Store) (at0 base0 top0 depth0 : ℕ) (insid
 course_falls x st0 at0 base0 top0 depth0 inside0 st at base top depth inside h c u w =
     let t = task st at base top depth inside in
     let t0 = task st0 at0 base0 top0 depth0 inside0 in
-    let a = within_less x.bytes.now x.ends.now x.starts.now x.ending u t (course_stands x.bytes.now st0 at0 base0 top0 depth0 inside0 st at base top depth inside c h) w in
+    let a = within_less x.bytes.now x.ends.now x.starts.now x.ending u t c.stands w in
     let b = leads_less x.bytes.now x.ends.now x.starts.now x.ending 0 t t0 (λ o. o) h c.leads in
     omega arith
 
 -- and so does an argument
-pub worked_falls : (x : Text) (st0 : Store) (at0 base top depth n : ℕ) (st : Store) (at j : ℕ) (vs : List ℕ) → Stands x.bytes.now (tasks st0 at0 base top depth n) → Worked x.bytes.now st0 at0 base top depth n st at j vs → j < n → cost_of x (task st at base top depth true) < cost_of x (tasks st0 at0 base top depth n)
+pub worked_falls : (x : Text) (st0 : Store) (at0 base top depth n : ℕ) (st : Store) (at j : ℕ) (vs : List NodeId) → Stands x.bytes.now (tasks st0 at0 base top depth n) → Worked x.bytes.now st0 at0 base top depth n st at j vs → j < n → cost_of x (task st at base top depth true) < cost_of x (tasks st0 at0 base top depth n)
 worked_falls x st0 at0 base top depth n st at j vs h c more =
     let t = tasks st at base top depth (n - j) in
     let t0 = tasks st0 at0 base top depth n in
-    let g = prepend (map (tree st.nodes.now) (take j vs)) in
+    let g = prepend (map (tree_of st) (take j vs)) in
     let a = within_less x.bytes.now x.ends.now x.starts.now x.ending (task st at base top depth true) t (leads_stands x.bytes.now 0 t t0 g c.leads h) (worked_within x.bytes.now st0 at0 base top depth n st at j vs c more) in
     let b = leads_less x.bytes.now x.ends.now x.starts.now x.ending 0 t t0 g h c.leads in
     omega arith
@@ -130,10 +124,6 @@ module _ (x : Text) (st : Store) (at base top depth : ℕ) (inside : Bool) (h : 
   pub call_numbered : (f n : ℕ) → HeadAt x.bytes.now at (Some (Call f n)) → Numbered x.bytes.now f
   call_numbered f n a = call_there x.bytes.now x.ends.now x.starts.now x.ending at (mode inside) depth (frame st base top) (room st) h f n a
 
-  -- words for two more variables
-  pub words_above : Wide x.bytes.now (length st.frames.now) at base top depth → Ready st base top → top + 2 ≤ length st.frames.now
-  words_above w r = let a = below_end in let b = w.own in let c = w.others in let d = r.ordered in omega arith
-
   -- the first part of a `parts` stands there
   pub here_parts : (i : ℕ) → HeadAt x.bytes.now at (Some (Parts i)) → Standing x.bytes.now (at + 2)
   here_parts i a p q = let e = h p q in go (goes_at x.bytes.now at (Parts i) a e.1.reads)
@@ -167,19 +157,16 @@ module _ (x : Text) (st : Store) (at base top depth : ℕ) (inside : Bool) (base
           below = below_end x st at base top depth inside h
       go _ base1 depth1 _ (replaces b d) = subst₂ (λ (i j : ℕ). Wide x.bytes.now w k i (i + n) j) (sym b) (sym d) (wide_tail x.bytes.now (length st.frames.now) w at base top depth wide same k n few p)
 
-  pub enters_words : (n : ℕ) → n ≤ 8 → Enters base top depth inside base1 depth1 inside1 → base1 + n ≤ w
-  enters_words n few e = let q = enters_wide 1 n few (omega arith) e in let o = q.others in omega arith
-
 -- the body of a call after its arguments
-module _ (s : List ℕ) (st : Store) (at base top depth : ℕ) (inside : Bool) (f n : ℕ) (a : HeadAt s at (Some (Call f n))) (st1 : Store) (vs : List ℕ) (says : Says s (tasks st (at + 3) base top depth n) (come_to st1 vs n)) (going : st1.stop ≡ 0) (st2 : Store) (k : ℕ) (body : Body s f k) where
-  pub enters_leads : (base1 depth1 : ℕ) (inside1 : Bool) → Enters base top depth inside base1 depth1 inside1 → Held base1 st1 st2 base1 (base1 + n) (map (tree st1.nodes.now) (take n vs)) → Leads s 1 (task st2 k base1 (base1 + n) depth1 inside1) (task st at base top depth inside) (λ o. o)
+module _ (s : List ℕ) (st : Store) (at base top depth : ℕ) (inside : Bool) (f n : ℕ) (a : HeadAt s at (Some (Call f n))) (st1 : Store) (vs : List NodeId) (says : Says s (tasks st (at + 3) base top depth n) (vals (map (tree_of st1) (take n vs)) (room st1))) (st2 : Store) (k : ℕ) (body : Body s f k) where
+  pub enters_leads : (base1 depth1 : ℕ) (inside1 : Bool) → Enters base top depth inside base1 depth1 inside1 → Held base1 st1 st2 base1 (base1 + n) (map (tree_of st1) (take n vs)) → Leads s 1 (task st2 k base1 (base1 + n) depth1 inside1) (task st at base top depth inside) (λ o. o)
   enters_leads base1 depth1 inside1 e held = go inside base1 depth1 inside1 e refl held
     where
-      go : (inside' : Bool) (base1 depth1 : ℕ) (inside1 : Bool) → Enters base top depth inside' base1 depth1 inside1 → inside ≡ inside' → Held base1 st1 st2 base1 (base1 + n) (map (tree st1.nodes.now) (take n vs)) → Leads s 1 (task st2 k base1 (base1 + n) depth1 inside1) (task st at base top depth inside) (λ o. o)
+      go : (inside' : Bool) (base1 depth1 : ℕ) (inside1 : Bool) → Enters base top depth inside' base1 depth1 inside1 → inside ≡ inside' → Held base1 st1 st2 base1 (base1 + n) (map (tree_of st1) (take n vs)) → Leads s 1 (task st2 k base1 (base1 + n) depth1 inside1) (task st at base top depth inside) (λ o. o)
       go _ base1 depth1 _ (opens b d) i held = subst (λ (j : ℕ). Leads s 1 (task st2 k j (j + n) depth1 false) (task st at base top depth inside) (λ o. o)) (sym b)
-          (path_inner s st at base top depth inside f n a st1 vs says st2 k depth1 going i d body (subst (λ (j : ℕ). Held j st1 st2 j (j + n) (map (tree st1.nodes.now) (take n vs))) b held))
+          (path_inner s st at base top depth inside f n a st1 vs says st2 k depth1 i d body (subst (λ (j : ℕ). Held j st1 st2 j (j + n) (map (tree_of st1) (take n vs))) b held))
       go _ base1 depth1 _ (replaces b d) i held = subst₂ (λ (j l : ℕ). Leads s 1 (task st2 k j (j + n) l false) (task st at base top depth inside) (λ o. o)) (sym b) (sym d)
-          (path_tail s st at base top depth inside f n a st1 vs says st2 k going i body (subst (λ (j : ℕ). Held j st1 st2 j (j + n) (map (tree st1.nodes.now) (take n vs))) b held))
+          (path_tail s st at base top depth inside f n a st1 vs says st2 k i body (subst (λ (j : ℕ). Held j st1 st2 j (j + n) (map (tree_of st1) (take n vs))) b held))
 
 -- the next turn, at the body
 pub course_enters : (s : List ℕ) (st0 : Store) (at0 base0 top0 depth0 : ℕ) (inside0 : Bool) (st : Store) (at base top depth : ℕ) (inside : Bool) → Course s st0 at0 base0 top0 depth0 inside0 st at base top depth inside → (st1 st2 : Store) (k base1 n depth1 : ℕ) (inside1 : Bool) (ρ : List Tree) → Enters base top depth inside base1 depth1 inside1 → Moved top st st1 → Held base1 st1 st2 base1 (base1 + n) ρ → Wide s (length st2.frames.now) k base1 (base1 + n) depth1 → Leads s 1 (task st2 k base1 (base1 + n) depth1 inside1) (task st at base top depth inside) (λ o. o) → Course s st0 at0 base0 top0 depth0 inside0 st2 k base1 (base1 + n) depth1 inside1
@@ -189,16 +176,6 @@ course_enters s st0 at0 base0 top0 depth0 inside0 st at base top depth inside c 
     course_step s st0 at0 base0 top0 depth0 inside0 st at base top depth inside c st2 k base1 (base1 + n) depth1 inside1 held.ready w
     (subst (λ (j : ℕ). Moved j st st2) (sym f0) (moved_then base1 base1 st st1 st2 (moved_weaken base1 top st st1 fl.1 m) held.moved (omega arith)))
     (omega arith) l
-
--- to stop changes nothing else
-pub moved_stopped : (floor : ℕ) (st st1 st2 : Store) → Moved floor st st1 → st2.nodes.now ≡ st1.nodes.now → st2.used ≡ st1.used → st2.limit ≡ st1.limit → st2.frames.now ≡ st1.frames.now → Moved floor st st2
-moved_stopped floor st st1 st2 m a b c d = record {
-  limit = c ∙ m.limit;
-  grown = subst₂ (λ (ws : List ℕ) (u : ℕ). Grown st.nodes.now st.used ws u) (sym a) (sym b) m.grown;
-  well = subst₃ (λ (ws : List ℕ) (u l : ℕ). Well ws u l) (sym a) (sym b) (sym c) m.well;
-  words = ap length d ∙ m.words;
-  kept = λ j h. ap (λ (xs : List ℕ). get_or xs j 0) d ∙ m.kept j h;
-}
 
 -- three times the cost falls by three at least, which leaves room for those that hand their own task on
 pub falls_to_operand : (a b t : ℕ) → a < b → 3 * b ≡ t → 3 * a + 2 < t
@@ -215,18 +192,15 @@ part_falls x u t h w = within_less x.bytes.now x.ends.now x.starts.now x.ending 
 
 -- a node that is left to do stands inside too, and costs no more there than the first task
 module _ (x : Text) (st0 : Store) (at0 base0 top0 depth0 : ℕ) (inside0 : Bool) (st : Store) (at base top depth : ℕ) (inside : Bool) (h : Stands x.bytes.now (task st0 at0 base0 top0 depth0 inside0)) (c : Course x.bytes.now st0 at0 base0 top0 depth0 inside0 st at base top depth inside) (a : HeadAt x.bytes.now at (Some Node)) where
-  stands_here : Stands x.bytes.now (task st at base top depth inside)
-  stands_here = course_stands x.bytes.now st0 at0 base0 top0 depth0 inside0 st at base top depth inside c h
-
   node_leads : Leads x.bytes.now 0 (task st at base top depth true) (task st at base top depth inside) (λ o. o)
   node_leads = node_mode x.bytes.now at inner (mode inside) depth (frame st base top) (room st) a
 
   pub node_stands : Stands x.bytes.now (task st at base top depth true)
-  node_stands = leads_stands x.bytes.now 0 (task st at base top depth true) (task st at base top depth inside) (λ o. o) node_leads stands_here
+  node_stands = leads_stands x.bytes.now 0 (task st at base top depth true) (task st at base top depth inside) (λ o. o) node_leads c.stands
 
   pub node_falls : (t : ℕ) → 3 * cost_of x (task st0 at0 base0 top0 depth0 inside0) + 1 ≡ t → 3 * cost_of x (task st at base top depth true) < t
   node_falls t e =
       let t1 = task st at base top depth inside in
-      let l = leads_less x.bytes.now x.ends.now x.starts.now x.ending 0 (task st at base top depth true) t1 (λ o. o) stands_here node_leads in
+      let l = leads_less x.bytes.now x.ends.now x.starts.now x.ending 0 (task st at base top depth true) t1 (λ o. o) c.stands node_leads in
       let k = leads_less x.bytes.now x.ends.now x.starts.now x.ending 0 t1 (task st0 at0 base0 top0 depth0 inside0) (λ o. o) h c.leads in
       omega arith

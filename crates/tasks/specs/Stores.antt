@@ -1,49 +1,50 @@
 -- What is in the store: nodes, and the variables in frames.
-use Rattle.std.specs.Prelude.{◌≡◌, ℕ, zero, suc, ◌+◌, ◌-◌, ◌*◌, ◌<◌, ◌≤◌, Bool, true, false, cond, List, map, length, take, drop, slice_index}
+use Rattle.std.specs.Prelude.{◌≡◌, ℕ, ◌+◌, ◌-◌, ◌*◌, ◌<◌, ◌≤◌, Bool, true, false, cond, List, map, length, take, drop, slice_index, Result, Ok, Err}
 use Rattle.lang.specs.Program.{Tree}
 use Rattle.lang.specs.Eval.{Outcome, val, full, deep, Outcomes, vals, no_vals, Mode, tail, inner}
 use Rattle.tasks.specs.Tasks.{Task, expr, list}
-use Rattle.arena.specs.Nodes.{tree, env, Grown, Well}
+use Rattle.arena.specs.Nodes.{tree, env, Grown}
+use Rattle.arena.specs.declared.nodes.NodeId.{NodeId}
 use Rattle.tasks.specs.declared.store.Store.{Store}
+use Rattle.tasks.specs.declared.store.Stop.{Stop}
+use Rattle.tasks.specs.declared.store.Stop.TheVariants.{Full, Deep}
+use Rattle.tasks.specs.declared.words.Given.{Given}
+
+-- the tree of a number
+abbrev pub tree_of : Store → NodeId → Tree
+tree_of st v = tree st.arena.nodes.now v.0
 
 -- the variables in view are in the frame from base to top, the newest last
 abbrev pub frame : Store → ℕ → ℕ → List Tree
-frame st base top = env st.nodes.now (drop base st.frames.now) (top - base)
+frame st base top = env st.arena.nodes.now (drop base st.frames.now) (top - base)
 
 abbrev pub room : Store → ℕ
-room st = st.limit - st.used
+room st = st.arena.limit - st.arena.used
 
--- an outcome in memory: 0 for a value, else why it stopped
-abbrev pub outcome : ℕ → Tree → ℕ → Outcome
-outcome zero t r = val t r
-outcome (suc zero) t r = full
-outcome (suc (suc n)) t r = deep
+-- the outcome without a value
+abbrev pub stopped : Stop → Outcome
+stopped Full = full
+stopped Deep = deep
 
-abbrev pub outcomes : ℕ → List Tree → ℕ → Outcomes
-outcomes zero ts r = vals ts r
-outcomes (suc zero) ts r = no_vals full
-outcomes (suc (suc n)) ts r = no_vals deep
+-- a result in memory as an outcome
+abbrev pub comes_to : Store → Result NodeId Stop → Outcome
+comes_to st (Ok v) = val (tree_of st v) (room st)
+comes_to st (Err e) = stopped e
 
--- a store and a number as an outcome
-abbrev pub comes_to : Store → ℕ → Outcome
-comes_to st v = outcome st.stop (tree st.nodes.now v) (room st)
+-- the same for n arguments
+abbrev pub come_to : Store → Result Given Stop → ℕ → Outcomes
+come_to st (Ok g) n = vals (map (tree_of st) (take n g.0)) (room st)
+come_to st (Err e) n = no_vals (stopped e)
 
--- the same for n numbers
-abbrev pub come_to : Store → List ℕ → ℕ → Outcomes
-come_to st vs n = outcomes st.stop (map (tree st.nodes.now) (take n vs)) (room st)
-
--- nothing has stopped, and every variable in the frame has a tree
+-- every variable in the frame has a tree
 pub record Ready (st : Store) (base top : ℕ) : Type 0 where
-  pub well : Well st.nodes.now st.used st.limit
-  pub going : st.stop ≡ 0
   pub ordered : base ≤ top
-  pub old : (j : ℕ) → j < top - base → slice_index (drop base st.frames.now) j ≤ st.used
+  pub old : (j : ℕ) → j < top - base → slice_index (drop base st.frames.now) j ≤ st.arena.used
 
 -- the store has moved on: nodes have grown, and what lies below a place of the frames is as it was
 pub record Moved (floor : ℕ) (st st' : Store) : Type 0 where
-  pub limit : st'.limit ≡ st.limit
-  pub grown : Grown st.nodes.now st.used st'.nodes.now st'.used
-  pub well : Well st'.nodes.now st'.used st'.limit
+  pub limit : st'.arena.limit ≡ st.arena.limit
+  pub grown : Grown st.arena.nodes.now st.arena.used st'.arena.nodes.now st'.arena.used
   pub words : length st'.frames.now ≡ length st.frames.now
   pub kept : (j : ℕ) → j < floor → slice_index st'.frames.now j ≡ slice_index st.frames.now j
 

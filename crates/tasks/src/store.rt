@@ -1,9 +1,15 @@
-// Nodes, of which some are used, up to a limit; frames of variables; and why the work has stopped, if it has.
+use arena::nodes::Arena;
+
+// Why work stops without a value: there is no room for a node; too many calls are open.
+#[derive(Clone, Copy, Debug, PartialEq)]
+pub enum Stop {
+    Full,
+    Deep,
+}
+
+// The nodes, and the variables in frames.
 #[derive(Drop)]
 pub struct Store<'a> {
-    pub nodes: &'a mut [u32],
-    pub used: usize,
-    pub limit: usize,
+    pub arena: Arena<'a>,
     pub frames: &'a mut [u32],
-    pub stop: u8,
 }

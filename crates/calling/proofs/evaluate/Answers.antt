@@ -1,30 +1,22 @@
-use Rattle.std.proofs.Common.{refl}
-use Rattle.calling.proofs.Given.{given_takes, given_there, comes}
+use Rattle.std.proofs.Common.{◌∙◌}
+use Rattle.std.proofs.lemmas.Option.{MatchOption-at_none, MatchOption-at_some}
+use Rattle.std.proofs.lemmas.Result.{err_from_is_err_and}
+use Rattle.calling.proofs.Given.{comes, says_stopped, or_error}
 use Rattle.calling.proofs.evaluate.Goals as goal
 
-pub run-requires : goal.run-requires
-run-requires c = record {
-  well = c.requires.well;
-  going = c.requires.going;
-  words = c.requires.words;
-  takes = given_takes c.args.text.now.bytes.now c.args.f c.args.stack.now c.args.n c.requires.within c.requires.takes;
-  there = given_there c.args.stack.now c.args.n c.args.store.now.used c.requires.within c.requires.there;
-}
+pub returns-in_err-value : goal.returns-in_err-value
+returns-in_err-value c =
+    let p = err_from_is_err_and c.from_residual.result c.from_residual.ensures.1 in
+    rw (p.1, p.2) (says_stopped _ _ _ _ _ _ c.in_err-value.field-0.0 (comes _ _ c.args.store.now.arena.nodes.now c.args.stack.now c.args.n _ _ _ c.requires.within c.in_err-value.ensures.comes))
 
-pub returns-in-Some : goal.returns-in-Some
-returns-in-Some c =
-    let x = c.in-Value.ensures.comes in
-    let w = c.in-Some.ensures in
-    (_, comes c.args.text.now.bytes.now c.args.f c.args.store.now.nodes.now c.args.stack.now c.args.n c.args.depth _ _ c.requires.within x.1, w.size, w.bytes, w.others)
+pub returns-in_err-bytes : goal.returns-in_err-bytes
+returns-in_err-bytes c =
+    let p = err_from_is_err_and c.from_residual-in_err-bytes.result c.from_residual-in_err-bytes.ensures.1 in
+    let e = or_error c.write.result _ _ c.in_err-bytes.ensures.value in
+    let w = MatchOption-at_none _ _ c.in_err-bytes.ensures.ok_part c.write.ensures in
+    rw (p.1, p.2 ∙ e) (_, _, comes _ _ c.args.store.now.arena.nodes.now c.args.stack.now c.args.n _ _ _ c.requires.within c.in_ok-value.ensures.comes.1, w.small, w.same)
 
-pub returns-in-None : goal.returns-in-None
-returns-in-None c =
-    let x = c.in-Value.ensures.comes in
-    let w = c.in-None.ensures in
-    (_, _, comes c.args.text.now.bytes.now c.args.f c.args.store.now.nodes.now c.args.stack.now c.args.n c.args.depth _ _ c.requires.within x.1, w.small, w.same)
-
-pub returns-in-Full : goal.returns-in-Full
-returns-in-Full c = (comes c.args.text.now.bytes.now c.args.f c.args.store.now.nodes.now c.args.stack.now c.args.n c.args.depth _ _ c.requires.within c.in-Full.ensures.comes, refl)
-
-pub returns-in-Deep : goal.returns-in-Deep
-returns-in-Deep c = (comes c.args.text.now.bytes.now c.args.f c.args.store.now.nodes.now c.args.stack.now c.args.n c.args.depth _ _ c.requires.within c.in-Deep.ensures.comes, refl)
+pub returns : goal.returns
+returns c =
+    let w = MatchOption-at_some _ _ c.in_ok-bytes.bytes c.in_ok-bytes.ensures.ok_part c.write.ensures in
+    (_, comes _ _ c.args.store.now.arena.nodes.now c.args.stack.now c.args.n _ _ _ c.requires.within c.in_ok-value.ensures.comes.1, w.size, w.bytes, w.others)

@@ -2,8 +2,5 @@ use Rattle.std.proofs.Common.{◌≡◌, ℕ, ◌<◌, ◌≤◌}
 use Rattle.closure.specs.Parts.{caller}
 use Rattle.circles.proofs.number_in_body.Given as goal
 
-abbrev pub invariant-loop-first : goal.invariant-loop-first
-invariant-loop-first l = (l.first ≤ l.step) × ((j : ℕ) → l.first ≤ j → j < l.step → caller l.steps j ≡ l.caller)
-
-abbrev pub decreases-loop-first : goal.decreases-loop-first
-decreases-loop-first l = l.first
+abbrev pub invariant-loop-before : goal.invariant-loop-before
+invariant-loop-before l = (j : ℕ) → l.before ≤ j → j < l.step → caller l.steps.words.now j ≡ l.caller

@@ -1,25 +1,27 @@
 use Rattle.std.proofs.Common.{◌≡◌, length, arith}
+use Rattle.std.proofs.lemmas.Result.{err_from_is_err_and}
 use Rattle.table.specs.Rows.{rows}
 use Rattle.closure.proofs.Answering.{entered_followed, whole, over}
 use Rattle.closure.proofs.all_ways.Goals as goal
 
-pub enter_steps-first-requires : goal.enter_steps-first-requires
-enter_steps-first-requires c = record { steps = c.requires.steps; few = c.requires.few; room = c.requires.room; heads = (omega arith, omega arith) }
+pub returns-in_err-enter_steps : goal.returns-in_err-enter_steps
+returns-in_err-enter_steps c = let e = err_from_is_err_and c.from_residual.result c.from_residual.ensures.1 in rw e.1 (over c.args.steps.now.words.now c.args.steps.now.count c.args.limit c.enter_steps.new.table.rows.now c.enter_steps.new.table.count c.enter_steps.ensures.entered.grown c.in_err-enter_steps.ensures.fits)
 
-pub returns-then-first-limit : goal.returns-then-first-limit
-returns-then-first-limit c = over c.args.steps.now c.args.n c.args.limit c.enter_steps-first.new.ways c.enter_steps-first.result c.enter_steps-first.ensures.grown c.if-first-limit.true
-
-pub returns-then-total-limit : goal.returns-then-total-limit
-returns-then-total-limit c =
-    let ts = rows c.args.steps.now c.args.n in
-    let first = c.enter_steps-first.result in
+pub returns-in_err-extend : goal.returns-in_err-extend
+returns-in_err-extend c =
+    let ts = rows c.args.steps.now.words.now c.args.steps.now.count in
+    let first = c.enter_steps.new.table.count in
     let m : length c.link_steps.new.nexts ≡ first = omega (arith, c.link_steps.auto.nexts, c.split_at_mut-nexts-2.ensures.front_len) in
-    over c.args.steps.now c.args.n c.args.limit c.extend-total.new.ways c.extend-total.result (c.extend-total.ensures.followed ts (entered_followed ts c.args.n c.args.limit c.enter_steps-first.new.ways first (length c.link_steps.new.nexts) m c.enter_steps-first.ensures)).grown c.if-total-limit.true
+    let e = err_from_is_err_and c.from_residual-in_err-extend.result c.from_residual-in_err-extend.ensures.1 in
+    rw e.1 (over c.args.steps.now.words.now c.args.steps.now.count c.args.limit c.extend.new.table.rows.now c.extend.new.table.count (c.extend.ensures.advanced.followed ts (entered_followed m c.enter_steps.ensures.entered)).grown c.in_err-extend.ensures.fits)
 
-pub returns-else-total-limit : goal.returns-else-total-limit
-returns-else-total-limit c =
-    let ts = rows c.args.steps.now c.args.n in
-    let first = c.enter_steps-first.result in
+pub returns : goal.returns
+returns c =
+    let ts = rows c.args.steps.now.words.now c.args.steps.now.count in
+    let first = c.enter_steps.new.table.count in
     let m : length c.link_steps.new.nexts ≡ first = omega (arith, c.link_steps.auto.nexts, c.split_at_mut-nexts-2.ensures.front_len) in
-    let e = c.enter_steps-first.ensures in
-    whole c.args.steps.now c.args.n c.args.limit c.enter_steps-first.new.ways first (length c.link_steps.new.nexts) c.extend-total.new.ways c.extend-total.result m e c.if-first-limit.false (c.extend-total.ensures.followed ts (entered_followed ts c.args.n c.args.limit c.enter_steps-first.new.ways first (length c.link_steps.new.nexts) m e)) c.if-total-limit.false c.extend-total.ensures.kept
+    let e = c.enter_steps.ensures.entered in
+    let a = c.chain_for.ensures.memory.rows in
+    let b = c.enter_steps.ensures.memory.rows in
+    let d = c.extend.ensures.advanced.memory.rows in
+    whole c.args.steps.now.words.now c.args.steps.now.count c.args.limit c.enter_steps.new.table.rows.now first (length c.link_steps.new.nexts) c.extend.new.table.rows.now _ c.extend.new.table.count (grind arith) m e c.in_ok-enter_steps.ensures.fits.fits (c.extend.ensures.advanced.followed ts (entered_followed m e)) c.in_ok-extend.ensures.fits c.extend.ensures.advanced.kept

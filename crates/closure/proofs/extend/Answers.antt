@@ -1,26 +1,22 @@
-use Rattle.std.proofs.Common.{length, arith}
-use Rattle.closure.proofs.Following.{going_none, going_more, followed_all}
+use Rattle.std.proofs.Common.{arith}
+use Rattle.closure.proofs.Following.{advanced_then, advanced_chained, advanced_all, ready_chained}
 use Rattle.closure.proofs.extend.Goals as goal
 
-pub loop-k-init : goal.loop-k-init
-loop-k-init c = going_none c.args.ways.now c.args.count 0 c.args.limit c.args.starts.now c.args.nexts.now c.requires.linked c.requires.most (omega arith)
+pub follow-requires-clause-ready : goal.follow-requires-clause-ready
+follow-requires-clause-ready c =
+    let h = c.keep_chained-enough.ensures in
+    ready_chained c.loop-k.invariant.ready h.open h.count h.kept
 
-pub returns-then-count-limit : goal.returns-then-count-limit
-returns-then-count-limit c =
-    let g = c.loop-k.invariant in
-    record { kept = g.kept; more = g.more; most = g.most; followed = λ ts f. followed_all ts (length c.args.nexts.now) c.loop-k.k c.args.limit c.loop-k.ways c.loop-k.count (g.followed ts f) g.here (λ le. absurd (omega arith)) }
-
-pub follow_some-requires : goal.follow_some-requires
-follow_some-requires c =
-    let g = c.loop-k.invariant in
-    record { room = record { words_enough = omega arith; limit_small = omega arith }; heads = (omega arith, omega arith); points = c.requires.points; linked = g.linked; few = omega (arith, g.more); fits = c.if-count-limit.false; here = c.loop-k-test.true }
+pub returns-in_err-follow-clause-advanced : goal.returns-in_err-follow-clause-advanced
+returns-in_err-follow-clause-advanced c =
+    let i = c.loop-k.invariant in
+    let h = c.keep_chained-enough.ensures in
+    let f = c.follow.ensures.advanced in
+    advanced_all (advanced_then i.advanced (advanced_then (advanced_chained i.here h.memory h.count h.kept) f)) (omega (arith, f.more, h.count, c.loop-k-test.true)) (λ le. absurd (omega (arith, c.in_err-follow.ensures.fits)))
 
 pub loop-k-preserved : goal.loop-k-preserved
 loop-k-preserved c =
-    let f = c.follow_some.ensures in
-    going_more c.args.ways.now c.args.count 0 c.args.limit c.args.starts.now c.args.nexts.now c.loop-k.ways c.loop-k.count c.loop-k.k c.follow_some.new.ways c.follow_some.result.1 c.follow_some.result.0 c.loop-k.invariant c.requires.few f.kept f.more f.most f.here f.followed
-
-pub returns : goal.returns
-returns c =
-    let g = c.loop-k.invariant in
-    record { kept = g.kept; more = g.more; most = g.most; followed = λ ts f. followed_all ts (length c.args.nexts.now) c.loop-k.k c.args.limit c.loop-k.ways c.loop-k.count (g.followed ts f) g.here (λ le. c.loop-k-test.false) }
+    let i = c.loop-k.invariant in
+    let h = c.keep_chained-enough.ensures in
+    let f = c.follow.ensures.advanced in
+    record { ready = c.in_ok-follow.ensures.fits; advanced = advanced_then i.advanced (advanced_then (advanced_chained i.here h.memory h.count h.kept) f); here = omega (arith, f.more, h.count, c.loop-k-test.true) }

@@ -1,4 +1,4 @@
-use Rattle.std.proofs.lemmas.Bool.{both_ways, not-true, not-false}
+use Rattle.std.proofs.lemmas.Bool.{not-true, not-false}
 use Rattle.std.proofs.lemmas.Bool.Decides.{not_from_Decides}
 use Rattle.closure.proofs.fails.Goals as goal
 
@@ -9,9 +9,5 @@ returns-then-is_idempotent c =
       sound = λ t loop as₁ w idem. (c.shrinks.ensures as₁ w).0 (not-false c.shrinks.result t);
     }
 
-pub returns-else-is_idempotent : goal.returns-else-is_idempotent
-returns-else-is_idempotent c =
-    record {
-      fails = λ t. absurd (both_ways c.is_idempotent.result c.if-is_idempotent.false t);
-      sound = λ t loop as₁ w idem. absurd (not_from_Decides c.is_idempotent.result (c.is_idempotent.ensures as₁ w) t idem);
-    }
+pub returns-else-is_idempotent-clause-sound : goal.returns-else-is_idempotent-clause-sound
+returns-else-is_idempotent-clause-sound c = λ t loop as₁ w idem. absurd (not_from_Decides c.is_idempotent.result (c.is_idempotent.ensures as₁ w) t idem)

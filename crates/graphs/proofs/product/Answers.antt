@@ -1,5 +1,4 @@
-use Rattle.graphs.proofs.Bits.{through_none, through_more, through_all}
-use Rattle.std.proofs.Common.{arith}
+use Rattle.graphs.proofs.Bits.{through_none, through_more}
 use Rattle.graphs.proofs.product.Goals as goal
 
 pub loop-k-init : goal.loop-k-init
@@ -7,6 +6,3 @@ loop-k-init c = through_none c.args.x c.args.y
 
 pub loop-k-preserved : goal.loop-k-preserved
 loop-k-preserved c = through_more c.args.x c.args.y c.loop-k.k c.loop-k.all c.through-all.result c.loop-k.invariant c.through-all.ensures
-
-pub returns : goal.returns
-returns c = through_all c.args.x c.args.y c.loop-k.k c.loop-k.all c.loop-k.invariant (omega arith)

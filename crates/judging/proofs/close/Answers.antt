@@ -1,15 +1,11 @@
-use Rattle.std.proofs.Common.{arith}
-use Rattle.judging.proofs.Bridge.{steps_of, settled_ends, settled_none}
+use Rattle.std.proofs.lemmas.Result.{err_from_is_err_and}
+use Rattle.judging.proofs.Bridge.{steps_of, settled}
 use Rattle.judging.proofs.close.Goals as goal
 
-pub all_ways-requires : goal.all_ways-requires
-all_ways-requires c = record { steps = c.requires.steps; few = omega arith; room = record { words_enough = omega arith; limit_small = omega arith }; scratch = (omega arith, omega arith) }
+pub returns-in_err-ways : goal.returns-in_err-ways
+returns-in_err-ways c =
+    let p = err_from_is_err_and c.from_residual.result c.from_residual.ensures.1 in
+    rw p.1 (λ ss f h. c.in_err-ways.ensures ss (steps_of c.args.steps.now.words.now ss c.args.steps.now.count h))
 
-pub returns-in-None : goal.returns-in-None
-returns-in-None c ss f h = settled_ends c.args.steps.now c.args.n c.args.limit c.all_ways.new.ways c.in-All.count ss f h c.in-All.ensures c.in-None.ensures.reason
-
-pub returns-in-Some : goal.returns-in-Some
-returns-in-Some c ss f h = settled_none c.args.steps.now c.args.n c.args.limit c.all_ways.new.ways c.in-All.count 0 ss f h c.in-All.ensures c.in-Some.ensures.reason
-
-pub returns-in-Many : goal.returns-in-Many
-returns-in-Many c ss f h = c.in-Many.ensures ss (steps_of c.args.steps.now ss c.args.n h)
+pub returns : goal.returns
+returns c ss f h = settled c.args.steps.now.words.now c.args.steps.now.count c.args.limit c.all_ways.new.ways c.in_ok-ways.ways c.first_without_reason-failing.result ss f h c.in_ok-ways.ensures c.first_without_reason-failing.ensures.first c.first_without_reason-failing.ensures.reason

@@ -1,12 +1,8 @@
-use Rattle.std.proofs.Common.{refl}
 use Rattle.arena.proofs.Trees.{put_grown, put_tree}
 use Rattle.arena.proofs.nodes.put_node.Goals as goal
 
-pub returns : goal.returns
-returns c =
-    let p = c.requires in
-    record {
-      number = refl;
-      grown = put_grown c.args.nodes.now c.args.used c.args.left.0 c.args.right.0 p.sound p.room p.left p.right;
-      made = put_tree c.args.nodes.now c.args.used c.args.left.0 c.args.right.0 p.sound p.room p.left p.right;
-    }
+pub returns-clause-grown : goal.returns-clause-grown
+returns-clause-grown c = put_grown _ _ _ _ c.requires.sound c.requires.room c.requires.left c.requires.right
+
+pub returns-clause-made : goal.returns-clause-made
+returns-clause-made c = put_tree _ _ _ _ c.requires.sound c.requires.room c.requires.left c.requires.right

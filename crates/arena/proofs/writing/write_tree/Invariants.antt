@@ -2,5 +2,5 @@ use Rattle.arena.specs.Walks.{Walks, to_come}
 use Rattle.arena.proofs.Writers.{Writing}
 use Rattle.arena.proofs.writing.write_tree.Given as goal
 
-abbrev pub invariant-loop-i : goal.invariant-loop-i
-invariant-loop-i l = Walks l.walk × Writing (to_come l.initial.walk) l.initial.out l.out l.i (to_come l.walk)
+abbrev pub invariant-loop-byte : goal.invariant-loop-byte
+invariant-loop-byte l = Walks l.walk × Writing (to_come l.initial.walk) l.initial.byte-items l.byte-items l.byte-index (to_come l.walk)

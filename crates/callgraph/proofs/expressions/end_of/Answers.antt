@@ -1,14 +1,15 @@
-use Rattle.std.proofs.Common.{◌<◌, length, refl, arith, rules}
+use Rattle.std.proofs.Common.{◌<◌, length, arith, rules}
 use Rattle.callgraph.proofs.Standing.{reads_below, reads_end}
 use Rattle.callgraph.proofs.expressions.end_of.Goals as goal
 
-pub bounds-ends-at : goal.bounds-ends-at
-bounds-ends-at c = omega (arith, reads_below c.args.bytes.now c.args.at c.requires.reads)
+pub bounds-script-at : goal.bounds-script-at
+bounds-script-at c = omega (arith, reads_below c.args.script.now.bytes.now c.args.at c.requires)
 
-pub offset_bounds-ends-at : goal.offset_bounds-ends-at
-offset_bounds-ends-at c = let l : c.args.at < length c.args.bytes.now = reads_below c.args.bytes.now c.args.at c.requires.reads in search rules
+pub offset_bounds-script-at : goal.offset_bounds-script-at
+offset_bounds-script-at c = let l : c.args.at < length c.args.script.now.bytes.now = reads_below c.args.script.now.bytes.now c.args.at c.requires in search rules
 
-pub returns : goal.returns
-returns c =
-    let h = reads_end c.args.bytes.now c.args.ends.now c.requires.known c.args.at c.requires.reads in
-    record { is = refl; forward = h.forward; within = h.within }
+pub returns-clause-forward : goal.returns-clause-forward
+returns-clause-forward c = (reads_end c.args.script.now.bytes.now c.args.script.now.ends.now c.args.script.now.ending c.args.at c.requires).forward
+
+pub returns-clause-within : goal.returns-clause-within
+returns-clause-within c = (reads_end c.args.script.now.bytes.now c.args.script.now.ends.now c.args.script.now.ending c.args.at c.requires).within

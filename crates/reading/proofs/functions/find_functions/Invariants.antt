@@ -4,7 +4,7 @@ use Rattle.reading.proofs.Finding.{Before}
 use Rattle.reading.proofs.functions.find_functions.Given as goal
 
 abbrev pub invariant-loop-at : goal.invariant-loop-at
-invariant-loop-at l = (fs : List Fun) × Before l.bytes fs l.at l.starts l.n
+invariant-loop-at l = (fs : List Fun) × Before l.table.bytes.now fs l.at l.starts l.n
 
 abbrev pub decreases-loop-at : goal.decreases-loop-at
-decreases-loop-at l = length l.bytes - l.at
+decreases-loop-at l = length l.table.bytes.now - l.at

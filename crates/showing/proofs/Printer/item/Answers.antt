@@ -1,36 +1,48 @@
-use Rattle.std.proofs.Common.{[], ◌∷◌, arith}
-use Rattle.showing.specs.declared.Turn.TheVariants.{Item}
+use Rattle.std.proofs.Common.{[], ◌∷◌, sym, ◌∙◌, arith, eqb-true}
+use borrow.Author.Tests.{eqb-false}
+use Rattle.std.proofs.lemmas.Result.{err_from_is_err_and}
+use Rattle.arena.proofs.Trees.{tree_parts}
 use Rattle.showing.specs.Shown.{decimal}
 use Rattle.showing.specs.Printers.{frames_text}
-use Rattle.showing.proofs.Digitwise.{decimal_some}
+use Rattle.showing.proofs.Numbering.{number_in_is, decimal_some}
 use Rattle.showing.proofs.Picked.{leaf_text, number_text}
-use Rattle.showing.proofs.Printouts.{no_room, item_ended}
+use Rattle.showing.proofs.Printouts.{overlong, ended}
 use Rattle.showing.proofs.Printer.item.Goals as goal
 
-pub returns-in_err-self : goal.returns-in_err-self
-returns-in_err-self c =
+pub returns-in_err-put : goal.returns-in_err-put
+returns-in_err-put c =
     let p = c.args.self.now in
-    let rest = frames_text p.nodes.now p.stack.now p.height in
-    rw c.from_residual.ensures (no_room p (Item c.args.n) (46 ∷ []) rest c.requires c.in_err-self.ensures (leaf_text p.nodes.now c.args.n.0 c.if-n-eq0.true rest))
+    let below = frames_text p.tree.nodes.now p.stack.now.items in
+    let e = err_from_is_err_and c.from_residual.result c.from_residual.ensures.1 in
+    rw e.1 (overlong _ p (46 ∷ []) below c.in_err-put.ensures.bytes (leaf_text p.tree.nodes.now c.args.n.0 (eqb-true c.args.n.0 0 (sym c.eq.ensures ∙ c.if-eq.true)) below))
 
-pub returns-then-n-eq0 : goal.returns-then-n-eq0
-returns-then-n-eq0 c =
+pub returns-then-eq : goal.returns-then-eq
+returns-then-eq c =
     let p = c.args.self.now in
-    item_ended p c.put.new.out c.in_ok-self.field-0 (46 ∷ []) c.in_ok-self.ensures (omega arith) (omega arith) (Item c.args.n) c.requires
-    (leaf_text p.nodes.now c.args.n.0 c.if-n-eq0.true (frames_text p.nodes.now p.stack.now p.height))
-    (omega (arith, c.requires.next.1))
+    let below = frames_text p.tree.nodes.now p.stack.now.items in
+    ended _ p c.put.new.self (46 ∷ []) c.in_ok-put.ensures.bytes (omega arith) c.requires.found c.requires.frames (leaf_text p.tree.nodes.now c.args.n.0 (eqb-true c.args.n.0 0 (sym c.eq.ensures ∙ c.if-eq.true)) below)
 
-pub returns-in_err-self-2 : goal.returns-in_err-self-2
-returns-in_err-self-2 c =
+pub returns-in_err-put_decimal : goal.returns-in_err-put_decimal
+returns-in_err-put_decimal c =
     let p = c.args.self.now in
-    let v = c.value-v.result in
-    let rest = frames_text p.nodes.now p.stack.now p.height in
-    rw c.from_residual-in_err-self-2.ensures (no_room p (Item c.args.n) (decimal v) rest c.requires c.in_err-self-2.ensures (number_text p.nodes.now c.args.n.0 v c.value-v.ensures c.if-v-gt0.true rest))
+    let ws = p.tree.nodes.now in
+    let n = c.args.n.0 in
+    let f = c.requires.found in
+    let below = frames_text ws p.stack.now.items in
+    let node = eqb-false n 0 (sym c.eq.ensures ∙ c.if-eq.false) in
+    let parts = tree_parts ws p.tree.root.0 p.tree.sound n (omega arith) c.requires.next.0 in
+    let is = sym (number_in_is ws p.tree.root.0 p.values.now p.tree.sound f.numbers n c.requires.next.0) ∙ sym c.number_at.ensures ∙ c.in-Some.is in
+    let e = err_from_is_err_and c.from_residual-in_err-put_decimal.result c.from_residual-in_err-put_decimal.ensures.1 in
+    rw e.1 (overlong _ p (decimal c.in-Some.number) below c.in_err-put_decimal.ensures (number_text ws n _ _ parts c.in-Some.number is below))
 
-pub returns-then-v-gt0 : goal.returns-then-v-gt0
-returns-then-v-gt0 c =
+pub returns-in-Some : goal.returns-in-Some
+returns-in-Some c =
     let p = c.args.self.now in
-    let v = c.value-v.result in
-    item_ended p c.put_decimal.new.out c.in_ok-self-2.field-0 (decimal v) c.in_ok-self-2.ensures (omega arith) (decimal_some v c.if-v-gt0.true) (Item c.args.n) c.requires
-    (number_text p.nodes.now c.args.n.0 v c.value-v.ensures c.if-v-gt0.true (frames_text p.nodes.now p.stack.now p.height))
-    (omega (arith, c.requires.next.1))
+    let ws = p.tree.nodes.now in
+    let n = c.args.n.0 in
+    let f = c.requires.found in
+    let below = frames_text ws p.stack.now.items in
+    let node = eqb-false n 0 (sym c.eq.ensures ∙ c.if-eq.false) in
+    let parts = tree_parts ws p.tree.root.0 p.tree.sound n (omega arith) c.requires.next.0 in
+    let is = sym (number_in_is ws p.tree.root.0 p.values.now p.tree.sound f.numbers n c.requires.next.0) ∙ sym c.number_at.ensures ∙ c.in-Some.is in
+    ended _ p c.put_decimal.new.out (decimal c.in-Some.number) c.in_ok-put_decimal.ensures (decimal_some c.in-Some.number) f c.requires.frames (number_text ws n _ _ parts c.in-Some.number is below)

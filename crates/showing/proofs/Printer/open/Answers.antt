@@ -1,46 +1,31 @@
-use Rattle.std.proofs.Common.{◌+◌, ◌-◌, ◌*◌, [], ◌∷◌, get_or, arith}
-use Rattle.arena.proofs.Trees.{tree_parts, sound_below}
-use Rattle.showing.specs.declared.Turn.TheVariants.{Item}
-use Rattle.showing.specs.declared.Frame.TheVariants.{Rest, Second}
+use Rattle.std.proofs.Common.{◌≡◌, ℕ, ◌<◌, Some, [], ◌∷◌, sym, ◌∙◌, arith}
+use Rattle.arena.specs.Nodes.{tree}
+use Rattle.showing.specs.declared.Frame.TheVariants.{Rest}
+use Rattle.showing.specs.Shown.{as_number}
 use Rattle.showing.specs.Printers.{frames_text}
-use Rattle.showing.proofs.Picked.{pair_text, list_text}
-use Rattle.showing.proofs.Printouts.{no_room, item_opened}
+use Rattle.showing.proofs.Numbering.{number_in_is}
+use Rattle.showing.proofs.Picked.{list_text}
+use Rattle.showing.proofs.Printouts.{opened}
 use Rattle.showing.proofs.Printer.open.Goals as goal
+use Rattle.showing.proofs.Printer.open.Goals.{in_default-via-in-Some+else-number-ge2, in_default-via-in_default}
 
-pub returns-in_err-self : goal.returns-in_err-self
-returns-in_err-self c =
+pub returns-in_ok-put-in_default : goal.returns-in_ok-put-in_default
+returns-in_ok-put-in_default c =
     let p = c.args.self.now in
-    let n = c.args.n.0 in
-    let ws = p.nodes.now in
-    let parts = tree_parts ws p.last.0 c.requires.printing.sound n c.requires.node c.requires.printing.next.0 in
-    let s = sound_below ws p.last.0 n c.requires.printing.sound c.requires.printing.next.0 in
-    rw c.from_residual.ensures (no_room p (Item c.args.n) (40 ∷ []) _ c.requires.printing c.in_err-self.ensures (pair_text ws n _ _ s c.requires.node parts c.requires.none c.value.result c.value.ensures c.if-value-ge2.true (frames_text ws p.stack.now p.height)))
-
-pub returns-then-value-ge2 : goal.returns-then-value-ge2
-returns-then-value-ge2 c =
-    let p = c.args.self.now in
-    let n = c.args.n.0 in
-    let ws = p.nodes.now in
-    let parts = tree_parts ws p.last.0 c.requires.printing.sound n c.requires.node c.requires.printing.next.0 in
-    let s = sound_below ws p.last.0 n c.requires.printing.sound c.requires.printing.next.0 in
-    item_opened p c.put.new.out c.in_ok-self.field-0 (40 ∷ []) c.in_ok-self.ensures (omega arith) (omega arith) n (get_or ws (2 * (n - 1)) 0) (Second (record { 0 = get_or ws (2 * (n - 1) + 1) 0 })) c.requires.printing parts.left parts.right (omega (arith, c.value.ensures))
-    (pair_text ws n _ _ s c.requires.node parts c.requires.none c.value.result c.value.ensures c.if-value-ge2.true (frames_text ws p.stack.now p.height))
-
-pub returns-in_err-self-2 : goal.returns-in_err-self-2
-returns-in_err-self-2 c =
-    let p = c.args.self.now in
-    let n = c.args.n.0 in
-    let ws = p.nodes.now in
-    let parts = tree_parts ws p.last.0 c.requires.printing.sound n c.requires.node c.requires.printing.next.0 in
-    let s = sound_below ws p.last.0 n c.requires.printing.sound c.requires.printing.next.0 in
-    rw c.from_residual-in_err-self-2.ensures (no_room p (Item c.args.n) (91 ∷ []) _ c.requires.printing c.in_err-self-2.ensures (list_text ws n _ _ s c.requires.node parts c.requires.none (omega (arith, c.value.ensures)) (frames_text ws p.stack.now p.height)))
-
-pub returns : goal.returns
-returns c =
-    let p = c.args.self.now in
-    let n = c.args.n.0 in
-    let ws = p.nodes.now in
-    let parts = tree_parts ws p.last.0 c.requires.printing.sound n c.requires.node c.requires.printing.next.0 in
-    let s = sound_below ws p.last.0 n c.requires.printing.sound c.requires.printing.next.0 in
-    item_opened p c.put-2.new.out c.in_ok-self-2.field-0 (91 ∷ []) c.in_ok-self-2.ensures (omega arith) (omega arith) n (get_or ws (2 * (n - 1)) 0) (Rest (record { 0 = get_or ws (2 * (n - 1) + 1) 0 })) c.requires.printing parts.left parts.right tt
-    (list_text ws n _ _ s c.requires.node parts c.requires.none (omega (arith, c.value.ensures)) (frames_text ws p.stack.now p.height))
+    let ws = p.tree.nodes.now in
+    let vs = p.values.now in
+    let f = c.requires.printing.found in
+    let next = c.requires.printing.next in
+    let l = c.parts.result.0.0 in
+    let r = c.parts.result.1.0 in
+    let parts = c.parts.ensures in
+    let is = number_in_is ws p.tree.root.0 vs p.tree.sound f.numbers in
+    let none = sym (is c.args.n.0 next.0) ∙ c.requires.none in
+    let few : (w : ℕ) → as_number (tree ws r) ≡ Some w → w < 2 = λ w e.
+    let k : c.number_at.result ≡ Some w = c.number_at.ensures ∙ is r (omega arith) ∙ e in
+    elim c.in_default.branch [
+      | in_default-via-in-Some+else-number-ge2 v ↦ let same : v.in-Some.number ≡ w = cc in omega (arith, v.if-number-ge2.false)
+      | in_default-via-in_default v ↦ absurd (v.in_default.not-Some w k)
+    ] in
+    opened _ p c.put-in_default.new.self (91 ∷ []) c.in_ok-put-in_default.ensures.bytes (omega arith) c.push-in_default.new.self c.args.n.0 l (Rest c.parts.result.1) f c.requires.printing.frames c.push-in_default.ensures.items c.push-in_default.ensures.capacity next.0 next.1 parts.left parts.right
+    (list_text ws c.args.n.0 l r parts none few (frames_text ws p.stack.now.items))

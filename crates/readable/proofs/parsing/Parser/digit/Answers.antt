@@ -1,17 +1,16 @@
-use Rattle.std.proofs.Common.{◌≡◌, ◌+◌, ◌*◌, length, refl, ap, arith}
+use Rattle.std.proofs.Common.{◌≡◌, ◌+◌, ◌*◌, ap, arith}
+use Rattle.readable.specs.Parsers.{size}
 use Rattle.readable.specs.Text.{more_digits}
 use Rattle.readable.proofs.Turns.{no_number, large_number}
 use Rattle.readable.proofs.parsing.Parser.digit.Goals as goal
 
 pub returns-in_default : goal.returns-in_default
-returns-in_default c = (refl, no_number c.args.self.now (c.wants_item.ensures.no c.if-wants_item.false) (more_digits c.args.number c.args.d))
+returns-in_default c =
+    let p = c.args.self.now in
+    no_number p (c.wants_item.ensures.no c.if-wants_item.false) (more_digits p.number c.args.d)
 
-pub returns-then-n-most : goal.returns-then-n-most
-returns-then-n-most c =
-    let e : more_digits c.args.number c.args.d ≡ 10 * c.in-Some.n + c.args.d = ap (λ n. more_digits n c.args.d) c.in-Some.is in
-    large_number c.args.self.now (length c.args.self.now.out.now) (more_digits c.args.number c.args.d) (omega arith)
-
-pub returns-then-d-most : goal.returns-then-d-most
-returns-then-d-most c =
-    let e : more_digits c.args.number c.args.d ≡ 10 * c.in-Some.n + c.args.d = ap (λ n. more_digits n c.args.d) c.in-Some.is in
-    large_number c.args.self.now (length c.args.self.now.out.now) (more_digits c.args.number c.args.d) (omega arith)
+pub returns-then-more-self : goal.returns-then-more-self
+returns-then-more-self c =
+    let p = c.args.self.now in
+    let e : more_digits p.number c.args.d ≡ 10 * c.in-Some.n + c.args.d = ap (λ n. more_digits n c.args.d) c.in-Some.is in
+    large_number p (size p) (more_digits p.number c.args.d) (grind arith)

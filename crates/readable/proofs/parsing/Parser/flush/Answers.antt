@@ -1,5 +1,8 @@
-use Rattle.readable.proofs.Turns.{flush_none}
+use Rattle.std.proofs.Common.{sym, ◌∙◌}
+use Rattle.readable.proofs.Steps.{none_flushed}
 use Rattle.readable.proofs.parsing.Parser.flush.Goals as goal
 
 pub returns-in-None : goal.returns-in-None
-returns-in-None c = flush_none c.args.number c.args.self.now c.in-None.is c.requires.within
+returns-in-None c =
+    let p = c.args.self.now in
+    rw c.take.ensures.after (none_flushed p (sym c.take.ensures.value ∙ c.in-None.is))

@@ -1,47 +1,43 @@
-use Rattle.std.proofs.Common.{[], ◌∷◌, refl, arith}
-use Rattle.std.proofs.lemmas.Result.{MatchResult-weaker}
+use Rattle.std.proofs.Common.{[], ◌∷◌, refl}
+use Rattle.std.proofs.lemmas.Result.{err_from_is_err_and}
 use Rattle.lang.specs.Bytes.{bytes_of_tree}
 use Rattle.readable.specs.declared.tokens.Token.TheVariants.{Dot, Open, Begin, Number}
 use Rattle.readable.specs.declared.parsing.Symbol.TheVariants.{First, Rest}
 use Rattle.readable.specs.Machine.{wants}
-use Rattle.readable.specs.Parsers.{stack, written}
 use Rattle.readable.specs.Syntax.{numeral}
-use Rattle.readable.proofs.Turns.{to_come_is, moved_as, stopped_as, put_moved, put_stopped, begins, push_moved, push_stopped, no_item}
+use Rattle.readable.proofs.Turns.{whole_item, item_overflows, pair_begun, list_begun, no_item}
 use Rattle.readable.proofs.parsing.Parser.item.Goals as goal
 
-pub returns-in-Dot : goal.returns-in-Dot
-returns-in-Dot c =
+pub returns-in_err-put-in-Dot : goal.returns-in_err-put-in-Dot
+returns-in_err-put-in-Dot c =
     let p = c.args.self.now in
-    let s = begins p c.args.k Dot c.in-Dot.is in
-    MatchResult-weaker c.put.result c.put.ensures
-    (λ x m. moved_as s (put_moved p c.put.new.self (0 ∷ []) m))
-    (λ f h. stopped_as f c.args.place _ s (put_stopped p (0 ∷ []) (wants (stack p)) c.requires.within f c.args.place h))
+    let e = err_from_is_err_and c.from_residual.result c.from_residual.ensures.1 in
+    rw (e.1, e.2) (item_overflows p c.args.token Dot (0 ∷ []) (wants p.stack.now.items) c.in-Dot.is refl c.in_err-put-in-Dot.ensures.bytes)
 
-pub returns-in-Number : goal.returns-in-Number
-returns-in-Number c =
+pub returns-in_err-put_numeral-in-Number : goal.returns-in_err-put_numeral-in-Number
+returns-in_err-put_numeral-in-Number c =
     let p = c.args.self.now in
     let n = c.in-Number.n in
-    let s = begins p c.args.k (Number n) c.in-Number.is in
-    MatchResult-weaker c.put_numeral.result c.put_numeral.ensures
-    (λ x m. moved_as s (put_moved p c.put_numeral.new.self (bytes_of_tree (numeral n)) m))
-    (λ f h. stopped_as f c.args.place _ s (put_stopped p (bytes_of_tree (numeral n)) (wants (stack p)) c.requires.within f c.args.place h))
+    let e = err_from_is_err_and c.from_residual-in_err-put_numeral-in-Number.result c.from_residual-in_err-put_numeral-in-Number.ensures.1 in
+    rw (e.1, e.2) (item_overflows p c.args.token (Number n) (bytes_of_tree (numeral n)) (wants p.stack.now.items) c.in-Number.is refl c.in_err-put_numeral-in-Number.ensures)
 
-pub returns-in-Open : goal.returns-in-Open
-returns-in-Open c =
+pub returns-in_err-put-in-Open : goal.returns-in_err-put-in-Open
+returns-in_err-put-in-Open c =
     let p = c.args.self.now in
-    let q = c.push.new.self in
-    let e = c.push.ensures in
-    let s = begins p c.args.k Open c.in-Open.is in
-    MatchResult-weaker c.put-in-Open.result c.put-in-Open.ensures
-    (λ x m. moved_as s (push_moved p q c.put-in-Open.new.self First (1 ∷ []) e.kept e.height e.stack e.written m))
-    (λ f h. stopped_as f c.args.place _ s (push_stopped p q (1 ∷ []) (wants (First ∷ stack p)) e.kept e.written f c.args.place h))
+    let e = err_from_is_err_and c.from_residual-in_err-put-in-Open.result c.from_residual-in_err-put-in-Open.ensures.1 in
+    rw (e.1, e.2) (item_overflows p c.args.token Open (1 ∷ []) (wants (First ∷ p.stack.now.items)) c.in-Open.is refl c.in_err-put-in-Open.ensures.bytes)
+
+pub returns-in_ok-put-in-Dot : goal.returns-in_ok-put-in-Dot
+returns-in_ok-put-in-Dot c = whole_item c.args.self.now c.args.token Dot (0 ∷ []) _ c.in-Dot.is refl c.in_ok-put-in-Dot.ensures.bytes refl refl refl
+
+pub returns-in_ok-put_numeral-in-Number : goal.returns-in_ok-put_numeral-in-Number
+returns-in_ok-put_numeral-in-Number c = whole_item c.args.self.now c.args.token (Number c.in-Number.n) (bytes_of_tree (numeral c.in-Number.n)) _ c.in-Number.is refl c.in_ok-put_numeral-in-Number.ensures refl refl refl
+
+pub returns-in_ok-put-in-Open : goal.returns-in_ok-put-in-Open
+returns-in_ok-put-in-Open c = pair_begun c.args.self.now c.args.token Open (1 ∷ []) First _ c.in-Open.is refl c.in_ok-put-in-Open.ensures.bytes refl refl c.push.ensures.items c.push.ensures.capacity
 
 pub returns-in-Begin : goal.returns-in-Begin
-returns-in-Begin c =
-    let p = c.args.self.now in
-    let q = c.push-in-Begin.new.self in
-    let e = c.push-in-Begin.ensures in
-    moved_as (begins p c.args.k Begin c.in-Begin.is) (record { kept = e.kept; higher = omega (arith, e.height); same = to_come_is q (written p) (Rest ∷ stack p) e.written e.stack })
+returns-in-Begin c = list_begun c.args.self.now c.args.token Begin Rest _ c.in-Begin.is refl refl refl c.push-in-Begin.ensures.items c.push-in-Begin.ensures.capacity
 
 pub returns-in-Close : goal.returns-in-Close
-returns-in-Close c = (refl, no_item c.args.self.now c.args.k c.in-Close.is)
+returns-in-Close c = no_item c.args.self.now c.args.token c.in-Close.is

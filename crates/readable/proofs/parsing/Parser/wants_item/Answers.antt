@@ -1,18 +1,14 @@
-use Rattle.std.proofs.Common.{◌≡◌, ℕ, ◌<◌, arith}
-use Rattle.std.proofs.lemmas.Bool.{true≢false, false≢true}
+use Rattle.std.proofs.Common.{◌≡◌, sym, ap, ◌∙◌, arith, Some}
+use Rattle.std.proofs.lemmas.Grind.{common_steps}
 use Rattle.readable.specs.declared.tokens.Token.TheVariants.{Number}
-use Rattle.readable.proofs.Turns.{not_shut, accepts}
+use Rattle.readable.specs.declared.parsing.Symbol.TheVariants.{Shut}
+use Rattle.readable.proofs.Turns.{no_top, top_is, nothing_wanted, not_shut}
 use Rattle.readable.proofs.parsing.Parser.wants_item.Goals as goal
 
-pub returns-in-Shut : goal.returns-in-Shut
-returns-in-Shut c =
-    let some : 0 < c.args.self.now.height = omega arith in
-    record {
-      no = λ e v. not_shut c.args.self.now some c.in-Shut.is (Number v) (λ f. let z : ◌≡◌ {A = ℕ} 0 1 = cc in omega arith);
-      yes = λ e. absurd (false≢true e);
-    }
+pub returns-in-Some-clause-no : goal.returns-in-Some-clause-no
+returns-in-Some-clause-no c = λ e v.
+    let is : c.in-Some.top ≡ Shut = grind (arith, common_steps) in
+    not_shut c.args.self.now _ (top_is c.args.self.now.stack.now.items Shut (ap Some (sym is) ∙ c.in-Some.ensures)) (Number v) (λ f. cc)
 
-pub returns-in_default : goal.returns-in_default
-returns-in_default c =
-    let some : 0 < c.args.self.now.height = omega arith in
-    record { no = λ e. absurd (true≢false e); yes = λ e. accepts c.args.self.now some c.in_default.not-Shut }
+pub returns-in-None-clause-no : goal.returns-in-None-clause-no
+returns-in-None-clause-no c = λ e v. nothing_wanted c.args.self.now (Number v) (no_top c.args.self.now.stack.now.items c.in-None.ensures)

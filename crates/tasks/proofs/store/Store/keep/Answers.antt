@@ -3,4 +3,4 @@ use Rattle.tasks.proofs.Frames.{held_push}
 use Rattle.tasks.proofs.store.Store.keep.Goals as goal
 
 pub returns : goal.returns
-returns c base ready new = held_push c.args.self.now _ base c.args.top c.args.v (record { nodes = refl; used = refl; limit = refl; stop = refl; frames = refl }) c.requires.within new ready
+returns c base ready new = held_push c.args.self.now _ base c.args.top c.args.v (record { arena = refl; frames = refl }) c.requires.within new ready

@@ -1,0 +1,3 @@
+-- What lent memory holds.
+pub mod Stack
+pub mod Output
