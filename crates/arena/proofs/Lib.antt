@@ -2,6 +2,5 @@ pub mod Trees
 pub mod Stacks
 pub mod Forests
 pub mod Readers
-pub mod Walkers
 pub mod Counters
 pub mod Writers

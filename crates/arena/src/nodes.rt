@@ -5,7 +5,7 @@ ghost use Rattle.arena.specs.Forests.{Written, Unwritten};
 
 use crate::writing::write_tree;
 
-// The number of a tree: 0 is the leaf, the others are nodes.
+// The number of a tree: 0 is the leaf, the others are nodes. A word and no Box, since there is no heap and trees share their parts; and no enum, which would take two of the lent words.
 #[derive(Clone, Copy, Debug, PartialEq)]
 pub struct NodeId(pub u32);
 
@@ -31,7 +31,7 @@ impl Tree<'_> {
     }
 }
 
-// Writes a node behind the `used` that there are.
+// Writes a node behind the `used` that there are: a function over words for those who have no arena.
 pub fn put_node(nodes: &mut [u32], used: usize, left: NodeId, right: NodeId) -> NodeId
     requires sound { Sound nodes.old used }
     requires room { 2 * used + 2 ≤ length nodes.old }
@@ -58,6 +58,7 @@ pub struct Arena<'a> {
     pub ghost well: { Well nodes.now used limit },
 }
 
+// That a number is among those used stays a clause: it ties a number to an arena.
 impl Arena<'_> {
     ghost use Rattle.arena.specs.Arenas.{words, Full, Made};
 

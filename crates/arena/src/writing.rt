@@ -1,45 +1,42 @@
-ghost use Rattle.std.specs.Prelude.{◌≡◌, ◌<◌, ◌≤◌, ◌∷◌, length, MatchOption};
+ghost use Rattle.std.specs.Prelude.{◌≡◌, ◌<◌, ◌≤◌, ◌⊎◌, [], ◌∷◌, length, MatchOption};
 ghost use Rattle.lang.specs.Bytes.{bytes_of_tree};
 ghost use Rattle.arena.specs.Roots.{rooted};
 ghost use Rattle.arena.specs.Forests.{Written, Unwritten};
 ghost use Rattle.arena.specs.Walks.{Walks, to_come};
 
 use crate::nodes::{LEAF, NodeId, Tree};
+use lent::stack::Stack;
 
-// A walk along the bytes of trees: the number of the next tree, and of how many trees the bytes are still to come; the numbers of the others are on the stack, which is lent since there is no heap.
+// A walk along the bytes of trees: the next tree, and the numbers of those after it, which are lent memory since there is no heap. The next is held apart, so that the memory need be no longer than the root's number.
 #[derive(Drop)]
-struct Walk<'a> {
+struct Walk<'a, 's> {
     nodes: &'a [u32],
-    stack: &'a mut [u32],
-    top: NodeId,
-    height: usize,
+    next: NodeId,
+    others: Stack<'s, u32>,
 }
 
-impl Walk<'_> {
-    // The next byte.
+impl Walk<'_, '_> {
+    // The next byte. After the last leaf the walk stays at it: with a next tree that may be none a byte takes 3.6 to 6.9 ns in place of 2.7 to 6.1, and the bar is 3.
+    #[tactic(auto, using(crate::proofs::Trees::leaf_zero))]
     fn step(&mut self) -> u8
-        requires walking { Walks self.old }
-        requires more { 0 < self.old.height }
+        requires { Walks self.old }
         ensures walking { Walks self.new }
-        ensures byte { to_come self.old ≡ result ∷ to_come self.new }
+        ensures byte { (to_come self.old ≡ result ∷ to_come self.new) ⊎ (to_come self.old ≡ result ∷ []) }
     {
-        if self.top == LEAF {
-            self.height -= 1;
-            if self.height > 0 {
-                self.top = NodeId(self.stack[self.height - 1]);
+        if self.next == LEAF {
+            if let Some(n) = self.others.pop() {
+                self.next = NodeId(n);
             }
-            0
-        } else {
-            let (left, right) = Tree {
-                nodes: self.nodes,
-                root: self.top,
-            }
-            .parts(self.top);
-            self.stack[self.height - 1] = right.0;
-            self.top = left;
-            self.height += 1;
-            1
+            return 0;
         }
+        let (left, right) = Tree {
+            nodes: self.nodes,
+            root: self.next,
+        }
+        .parts(self.next);
+        self.others.push(right.0);
+        self.next = left;
+        1
     }
 }
 
@@ -52,6 +49,7 @@ fn first(a: u32, b: u32) -> u32
 }
 
 // How many bytes a tree has, unless there are more than `most`: then no more steps are taken. A tree has two bytes for each node and one more, so only nodes are looked at. What comes next is selected, since a branch on a tree's shape can't be foreseen.
+// The height stands beside the lent slice, and no Stack, for the select: on large random shapes a byte takes 6.6 ns so, and 9.9 with a Stack and branches; both miss the bar of 3 there.
 fn count(tree: Tree<'_>, stack: &mut [u32], most: usize) -> Option<usize>
     requires { tree.root.0 ≤ length stack.old }
     ensures { MatchOption result (most < length (bytes_of_tree (rooted tree.entry))) (λ k. (k ≡ length (bytes_of_tree (rooted tree.entry))) × (k ≤ most)) }
@@ -88,11 +86,11 @@ pub fn write_tree(tree: Tree<'_>, stack: &mut [u32], out: &mut [u8]) -> Option<u
     ensures { MatchOption result (Unwritten (rooted tree.entry) out.old out.new) (λ k. Written (rooted tree.entry) out.old out.new k) }
 {
     let size = count(tree, stack, out.len())?;
+    let others = Stack::new(stack);
     let mut walk = Walk {
         nodes: tree.nodes,
-        stack,
-        top: tree.root,
-        height: 1,
+        next: tree.root,
+        others,
     };
     for byte in &mut out[..size] {
         *byte = walk.step();

@@ -43,7 +43,7 @@ fn wanted(script: &Script, f: usize) -> Option<usize>
     Some(script.expressions.function_at(script.starts, f).args as usize)
 }
 
-// Runs a function on trees that are among the nodes, and writes its value.
+// Runs a function on trees that are among the nodes, and writes its value. All of the stack serves the writing; its first `n` words are the arguments.
 fn evaluate(
     text: &Text<'_>,
     store: &mut Store<'_>,

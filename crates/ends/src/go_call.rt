@@ -89,6 +89,7 @@ fn go_within(
         expressions,
         starts: &starts[..verdict.functions],
     };
+    // no From: it would be used once, and here it is seen that both only grow wider
     let within = calling::Limits {
         depth: limits.depth as usize,
         room: limits.room as usize,

@@ -7,7 +7,7 @@ use super::words::split_tables;
 use judging::{Refusal, Verdict, find_verdict};
 use std::fmt;
 
-// What is said of a program.
+// What is said of a program. No Result: no answer has a value, and all five are printed and numbered alike.
 #[derive(Clone, Copy, Debug, PartialEq)]
 pub enum Judged {
     Ends,

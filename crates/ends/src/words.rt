@@ -1,7 +1,9 @@
 ghost use Rattle.std.specs.Prelude.{◌≡◌, ◌+◌, ◌≤◌, length};
 
+use reading::functions::MAX_FUNCTIONS;
+
 // Where each of the functions starts.
-const STARTS: usize = 64;
+const STARTS: usize = MAX_FUNCTIONS;
 
 // The work words of judging: those for where each expression of so many bytes ends, for where each function starts, and the rest.
 // Callers hand the three on to judging one by one: the tables outlive it, and the rest does not.

@@ -1,4 +1,4 @@
-// The calls for other languages, as `include/pegsienna.h` declares them: those of crate `ends`, with their answers as numbers. The C interface needs the limits one by one.
+// The calls for other languages, as `include/pegsienna.h` declares them: those of crate `ends`, with their answers as numbers. The C interface needs the limits and the floors one by one.
 #![tactic(auto)]
 
 ghost use Rattle.std.specs.Prelude.{◌≡◌, ◌+◌, ◌-◌, ◌*◌, ◌^◌, length, min, Result};

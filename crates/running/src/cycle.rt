@@ -1,5 +1,5 @@
 // The interpreter: an expression is worked out by following its bytes.
-// What each function asks ties a frame to a place and to the store as it then is, so no type can say it. The text and the store stay two parameters: the one is shared and stays as it is, the other is lent to be changed.
+// What each function asks and promises ties a frame to a place and to the store as it then is, so no type can say it. The text and the store stay two parameters: the one is shared and stays as it is, the other is lent to be changed.
 ghost use Rattle.std.specs.Prelude.{ℕ, ◌+◌, ◌≤◌, Bool, true, length, Some, All, IfOk};
 ghost use Rattle.reading.specs.declared.head.Head.TheVariants.{Node};
 ghost use Rattle.reading.specs.Heads.{HeadAt};
@@ -114,6 +114,7 @@ fn operand(text: &Text<'_>, store: &mut Store<'_>, at: usize, frame: Frame) -> R
 
 // Works out the arguments of a call, the first of which stands at a place.
 // The loop is as long as a call can have arguments, so that it is unrolled. Sort's bar is 7 × plain Rust: the same loops in Rust take 6.8 so, 7.1 over `0..n`, 7.2 over `&mut given.0[..n]`.
+// As rt builds it, sort takes 6.4 so, but up to 7.3 over `(0..MAX_ARGS).take(n)` or `0..n.min(MAX_ARGS)`, which are not unrolled. Over `given.0.iter_mut().take(n)` the proof doesn't close: nothing is known of `given` after it.
 #[cycle(evaluation)]
 fn arguments(
     text: &Text<'_>,

@@ -7,7 +7,7 @@ pub enum Stop {
     Deep,
 }
 
-// The nodes, and the variables in frames.
+// The nodes, and the variables in frames: lent words, since there is no heap. Where a frame begins and ends goes with the work, since calls nest.
 #[derive(Drop)]
 pub struct Store<'a> {
     pub arena: Arena<'a>,
