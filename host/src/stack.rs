@@ -10,7 +10,7 @@ use crate::Stop;
 /// What a call needs before it recurses, with much to spare.
 pub const BASE_BYTES: usize = 256 * 1024;
 
-/// What an expression that stands in another needs at most. Measured are 176 bytes.
+/// What an expression that stands in another needs at most. Measured are 160 bytes.
 pub const LEVEL_BYTES: usize = 256;
 
 /// How much native stack a call may need, for a script whose expressions nest so deep. `usize::MAX` if it is more than that.

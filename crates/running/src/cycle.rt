@@ -13,6 +13,7 @@ use tasks::text::Text;
 use tasks::words::{Given, MAX_ARGS};
 
 // The variables in view, from `base` to `top`, and how many further calls may be opened.
+// It is lent to what is inside: handed on by value it is copied to the stack with each call, and Ackermann's function takes a fifth longer.
 #[derive(Clone, Copy, Debug, PartialEq)]
 pub struct Frame {
     pub base: usize,
@@ -26,21 +27,22 @@ pub fn value(
     text: &Text<'_>,
     store: &mut Store<'_>,
     mut at: usize,
-    mut frame: Frame,
+    within: &Frame,
     mut inside: bool,
 ) -> Result<NodeId, Stop>
-    requires ready { Ready store.old frame.base frame.top }
-    requires wide { Wide text.now.bytes.now (length store.old.frames.now) at frame.base frame.top frame.depth }
-    requires stands { Stands text.now.bytes.now (task store.old at frame.base frame.top frame.depth inside) }
-    ensures moved { Moved (floor inside frame.base frame.top) store.old store.new }
+    requires ready { Ready store.old within.now.base within.now.top }
+    requires wide { Wide text.now.bytes.now (length store.old.frames.now) at within.now.base within.now.top within.now.depth }
+    requires stands { Stands text.now.bytes.now (task store.old at within.now.base within.now.top within.now.depth inside) }
+    ensures moved { Moved (floor inside within.now.base within.now.top) store.old store.new }
     ensures there { IfOk result (λ v. v.0 ≤ store.new.arena.used) }
-    ensures says { Says text.now.bytes.now (task store.old at frame.base frame.top frame.depth inside) (comes_to store.new result) }
+    ensures says { Says text.now.bytes.now (task store.old at within.now.base within.now.top within.now.depth inside) (comes_to store.new result) }
 {
+    let mut frame = *within;
     'body: loop {
         match text.head(at) {
             Head::Var(i) => return Ok(store.variable(frame.top, i)),
             Head::Leaf => return Ok(LEAF),
-            Head::Node => return node(text, store, at, frame),
+            Head::Node => return node(text, store, at, &frame),
             Head::Parts(i) => {
                 let whole = store.variable(frame.top, i);
                 if store.arena.is_leaf(whole) {
@@ -53,14 +55,14 @@ pub fn value(
                 continue 'body;
             }
             Head::Bind => {
-                let bound = operand(text, store, at + 1, frame)?;
+                let bound = operand(text, store, at + 1, &frame)?;
                 store.keep(frame.top, bound);
                 at = text.end(at + 1);
                 frame.top += 1;
                 continue 'body;
             }
             Head::Call(f, n) => {
-                let given = arguments(text, store, at + 3, frame, n)?;
+                let given = arguments(text, store, at + 3, &frame, n)?;
                 if inside {
                     if frame.depth == 0 {
                         return Err(Stop::Deep);
@@ -80,14 +82,14 @@ pub fn value(
 
 // Works out the two parts of a node, and makes it if there is room then.
 #[cycle(evaluation)]
-fn node(text: &Text<'_>, store: &mut Store<'_>, at: usize, frame: Frame) -> Result<NodeId, Stop>
+fn node(text: &Text<'_>, store: &mut Store<'_>, at: usize, frame: &Frame) -> Result<NodeId, Stop>
     requires head { HeadAt text.now.bytes.now at (Some Node) }
-    requires ready { Ready store.old frame.base frame.top }
-    requires wide { Wide text.now.bytes.now (length store.old.frames.now) at frame.base frame.top frame.depth }
-    requires stands { Stands text.now.bytes.now (task store.old at frame.base frame.top frame.depth true) }
-    ensures moved { Moved frame.top store.old store.new }
+    requires ready { Ready store.old frame.now.base frame.now.top }
+    requires wide { Wide text.now.bytes.now (length store.old.frames.now) at frame.now.base frame.now.top frame.now.depth }
+    requires stands { Stands text.now.bytes.now (task store.old at frame.now.base frame.now.top frame.now.depth true) }
+    ensures moved { Moved frame.now.top store.old store.new }
     ensures there { IfOk result (λ v. v.0 ≤ store.new.arena.used) }
-    ensures says { (inside : Bool) → Says text.now.bytes.now (task store.old at frame.base frame.top frame.depth inside) (comes_to store.new result) }
+    ensures says { (inside : Bool) → Says text.now.bytes.now (task store.old at frame.now.base frame.now.top frame.now.depth inside) (comes_to store.new result) }
 {
     let left = operand(text, store, at + 1, frame)?;
     let next = text.end(at + 1);
@@ -97,13 +99,13 @@ fn node(text: &Text<'_>, store: &mut Store<'_>, at: usize, frame: Frame) -> Resu
 
 // Works out the expression at a place inside another; a variable and a leaf are read where they stand.
 #[cycle(evaluation)]
-fn operand(text: &Text<'_>, store: &mut Store<'_>, at: usize, frame: Frame) -> Result<NodeId, Stop>
-    requires ready { Ready store.old frame.base frame.top }
-    requires wide { Wide text.now.bytes.now (length store.old.frames.now) at frame.base frame.top frame.depth }
-    requires stands { Stands text.now.bytes.now (task store.old at frame.base frame.top frame.depth true) }
-    ensures moved { Moved frame.top store.old store.new }
+fn operand(text: &Text<'_>, store: &mut Store<'_>, at: usize, frame: &Frame) -> Result<NodeId, Stop>
+    requires ready { Ready store.old frame.now.base frame.now.top }
+    requires wide { Wide text.now.bytes.now (length store.old.frames.now) at frame.now.base frame.now.top frame.now.depth }
+    requires stands { Stands text.now.bytes.now (task store.old at frame.now.base frame.now.top frame.now.depth true) }
+    ensures moved { Moved frame.now.top store.old store.new }
     ensures there { IfOk result (λ v. v.0 ≤ store.new.arena.used) }
-    ensures says { Says text.now.bytes.now (task store.old at frame.base frame.top frame.depth true) (comes_to store.new result) }
+    ensures says { Says text.now.bytes.now (task store.old at frame.now.base frame.now.top frame.now.depth true) (comes_to store.new result) }
 {
     match text.head(at) {
         Head::Var(i) => Ok(store.variable(frame.top, i)),
@@ -120,16 +122,16 @@ fn arguments(
     text: &Text<'_>,
     store: &mut Store<'_>,
     mut at: usize,
-    frame: Frame,
+    frame: &Frame,
     n: u8,
 ) -> Result<Given, Stop>
     requires few { n ≤ 8 }
-    requires ready { Ready store.old frame.base frame.top }
-    requires wide { Wide text.now.bytes.now (length store.old.frames.now) at frame.base frame.top frame.depth }
-    requires stand { Stands text.now.bytes.now (tasks store.old at frame.base frame.top frame.depth n) }
-    ensures moved { Moved frame.top store.old store.new }
+    requires ready { Ready store.old frame.now.base frame.now.top }
+    requires wide { Wide text.now.bytes.now (length store.old.frames.now) at frame.now.base frame.now.top frame.now.depth }
+    requires stand { Stands text.now.bytes.now (tasks store.old at frame.now.base frame.now.top frame.now.depth n) }
+    ensures moved { Moved frame.now.top store.old store.new }
     ensures there { IfOk result (λ given. All (λ v. v.0 ≤ store.new.arena.used) given.0) }
-    ensures say { Says text.now.bytes.now (tasks store.old at frame.base frame.top frame.depth n) (come_to store.new result n) }
+    ensures say { Says text.now.bytes.now (tasks store.old at frame.now.base frame.now.top frame.now.depth n) (come_to store.new result n) }
 {
     let mut given = Given([LEAF; MAX_ARGS]);
     for j in 0..MAX_ARGS {

@@ -43,7 +43,7 @@ pub fn run(
         top: given.len(),
         depth,
     };
-    let root = value(text, store, at, frame, false)?;
+    let root = value(text, store, at, &frame, false)?;
     Ok(Value {
         root,
         room: store.arena.limit - store.arena.used,

@@ -6,16 +6,16 @@ use Rattle.tasks.proofs.Courses.{Course, cost_of}
 use Rattle.running.proofs.cycle.+evaluation.Given as goal
 
 abbrev pub decreases-arguments : goal.decreases-arguments
-decreases-arguments l = 3 * cost_of l.text.now (tasks l.store.now l.at l.frame.base l.frame.top l.frame.depth l.n)
+decreases-arguments l = 3 * cost_of l.text.now (tasks l.store.now l.at l.frame.now.base l.frame.now.top l.frame.now.depth l.n)
 
 abbrev pub decreases-node : goal.decreases-node
-decreases-node l = 3 * cost_of l.text.now (task l.store.now l.at l.frame.base l.frame.top l.frame.depth true)
+decreases-node l = 3 * cost_of l.text.now (task l.store.now l.at l.frame.now.base l.frame.now.top l.frame.now.depth true)
 
 abbrev pub decreases-operand : goal.decreases-operand
-decreases-operand l = 3 * cost_of l.text.now (task l.store.now l.at l.frame.base l.frame.top l.frame.depth true) + 2
+decreases-operand l = 3 * cost_of l.text.now (task l.store.now l.at l.frame.now.base l.frame.now.top l.frame.now.depth true) + 2
 
 abbrev pub decreases-value : goal.decreases-value
-decreases-value l = 3 * cost_of l.text.now (task l.store.now l.at l.frame.base l.frame.top l.frame.depth l.inside) + 1
+decreases-value l = 3 * cost_of l.text.now (task l.store.now l.at l.within.now.base l.within.now.top l.within.now.depth l.inside) + 1
 
 abbrev pub invariant-arguments-loop-j : goal.invariant-arguments-loop-j
 invariant-arguments-loop-j l =
