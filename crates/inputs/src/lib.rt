@@ -17,6 +17,33 @@ pub const MAX_SCRIPT: usize = 512;
 // The most ways that they allow a script.
 pub const MAX_WAYS: u32 = 4096;
 
+// Reads as much as fits into lent memory, and says how much that was: for those who have none to ask for, or who want the front of a longer input.
+pub fn read_up_to<R: Read>(from: &mut R, buf: &mut [u8]) -> anyhow::Result<usize>
+    ensures { IfOk result (λ n. n ≤ length buf.old) }
+{
+    // counted by hand: each read says itself how much it gave
+    let mut n = 0;
+    for _i in 0..buf.len() {
+        if n >= buf.len() {
+            break;
+        }
+        let got = from.read(&mut buf[n..])?;
+        if got == 0 {
+            break;
+        }
+        n += got;
+    }
+    Ok(n)
+}
+
+// A file's bytes, as many as fit.
+pub fn read_file(rt: &HostRuntime, path: &str, buf: &mut [u8]) -> anyhow::Result<usize>
+    ensures { IfOk result (λ n. n ≤ length buf.old) }
+{
+    let mut file = File::open(rt, path).map_err(|e| anyhow!("cannot open {path}: {e}"))?;
+    read_up_to(&mut file, buf)
+}
+
 // All bytes that a reader has left, where they are at most so many. One more is read, which shows that there are more.
 pub fn read_within<R: Read + Drop>(
     alloc: Global,
@@ -80,6 +107,15 @@ mod tests {
         let fits = read_within(rt.alloc(), &b"three"[..], 5)?.ok_or("more than there is")?;
         assert!(rt; fits.as_slice() == b"three".as_slice());
         assert!(rt; read_within(rt.alloc(), &b"three"[..], 4)?.is_none());
+        Ok(())
+    }
+
+    #[test]
+    fn reads_as_much_as_fits(rt: HostRuntime) -> Result<(), Fail> {
+        let mut buf = [0u8; 4];
+        assert!(rt; read_up_to(&mut &b"three"[..], &mut buf).ok() == Some(4));
+        assert!(rt; buf == *b"thre");
+        assert!(rt; read_up_to(&mut &b"it"[..], &mut buf).ok() == Some(2));
         Ok(())
     }
 }

@@ -45,18 +45,28 @@ pub struct Function<'a> {
     pub body: &'a [u8],
 }
 
+// Function f of a program that was read. Its body is a part of the bytes alone, so it may outlive the table of ends.
+pub fn function_at<'a>(bytes: &'a [u8], ends: &[u32], starts: &[u32], f: usize) -> Function<'a>
+    requires read { (p : Prog) × (n : ℕ) × Tables bytes.now p ends.now starts.now n × (f < n) }
+    requires ends_room { length bytes.now ≤ length ends.now }
+    requires starts_room { f < length starts.now }
+    ensures { (p : Prog) (n : ℕ) (g : Fun) → Tables bytes.now p ends.now starts.now n → nth p f ≡ some g → (result.args ≡ g.args) × (result.body.now ≡ bytes_of_expr g.body) }
+{
+    let start = starts[f] as usize;
+    let end = ends[start + 1] as usize;
+    Function {
+        args: bytes[start],
+        body: &bytes[start + 1..end],
+    }
+}
+
 impl<'a> Expressions<'a> {
-    // Function f of a program that was read.
+    // The same.
     pub fn function_at(&self, starts: &[u32], f: usize) -> Function<'a>
         requires read { (p : Prog) × (n : ℕ) × Tables self.now.bytes.now p self.now.ends.now starts.now n × (f < n) }
         requires starts_room { f < length starts.now }
         ensures { (p : Prog) (n : ℕ) (g : Fun) → Tables self.now.bytes.now p self.now.ends.now starts.now n → nth p f ≡ some g → (result.args ≡ g.args) × (result.body.now ≡ bytes_of_expr g.body) }
     {
-        let start = starts[f] as usize;
-        let end = self.ends[start + 1] as usize;
-        Function {
-            args: self.bytes[start],
-            body: &self.bytes[start + 1..end],
-        }
+        function_at(self.bytes, self.ends, starts, f)
     }
 }

@@ -21,7 +21,10 @@ pub record IsSameMemory (t t' : Table) : Type 0 where
   pub words : length t'.rows.now ≡ length t.rows.now
   pub some_heads : length t'.heads.now ≡ length t.heads.now
 
--- the place of e among the rows, if it is there
+-- the place of e among the first n rows, if it is there
+abbrev pub FoundAmong : List ℕ → ℕ → Edge → Option ℕ → Type 0
+FoundAmong xs n e (Some k) = (k < n) × (edge_of xs k ≡ e)
+FoundAmong xs n e None = (j : ℕ) → j < n → edge_of xs j ≢ e
+
 abbrev pub Found : Table → Edge → Option ℕ → Type 0
-Found t e (Some k) = (k < t.count) × (edge_of t.rows.now k ≡ e)
-Found t e None = (j : ℕ) → j < t.count → edge_of t.rows.now j ≢ e
+Found t e o = FoundAmong t.rows.now t.count e o

@@ -4,7 +4,7 @@
 ghost use Rattle.std.specs.Prelude.{◌≡◌, ℕ, ◌+◌, ◌*◌, ◌/◌, ◌%◌, ◌^◌, ◌<◌, ◌≤◌, List, [], ◌∷◌, ◌++◌, length, ◌≢◌, slice_index};
 ghost use Rattle.table.specs.Index.{Added, Chained, bucket_of};
 ghost use Rattle.table.specs.Rows.{SameRow, link_at, row_at, rows as list, width};
-ghost use Rattle.table.specs.Tables.{Found, IsChained, IsSameMemory, list_of};
+ghost use Rattle.table.specs.Tables.{Found, FoundAmong, IsChained, IsSameMemory, list_of};
 
 use graphs::Graph;
 pub use row::Row;
@@ -138,6 +138,22 @@ fn chain(e: Edge, chains: usize) -> usize
     ((mixed / HALF) * chains as u64 / HALF) as usize
 }
 
+/// The place of an edge among the first `count` rows, whose chains begin at the first `chains` of the heads. Whoever only looks an edge up need not have the words for himself.
+pub fn find(rows: &[u32], heads: &[u32], chains: usize, count: usize, e: Edge) -> Option<usize>
+    requires room { width * count ≤ length rows.now }
+    requires chained { Chained rows.now heads.now chains count }
+    ensures { FoundAmong rows.now count e result }
+{
+    let mut at = heads[chain(e, chains)] as usize;
+    while let Some(k) = at.checked_sub(1) {
+        if edge_at(rows, k) == e {
+            return Some(k);
+        }
+        at = rows[WIDTH * k + LINK] as usize;
+    }
+    None
+}
+
 /// Empties the first chains.
 fn empty(heads: &mut [u32], chains: usize)
     requires { chains ≤ length heads.old }
@@ -172,14 +188,7 @@ impl Table<'_> {
         requires { IsChained self.now }
         ensures { Found self.now e result }
     {
-        let mut at = self.heads[chain(e, self.chains)] as usize;
-        while let Some(k) = at.checked_sub(1) {
-            if edge_at(self.rows, k) == e {
-                return Some(k);
-            }
-            at = self.rows[WIDTH * k + LINK] as usize;
-        }
-        None
+        find(self.rows, self.heads, self.chains, self.count, e)
     }
 
     /// Adds a row at the end, as the first of its chain.
