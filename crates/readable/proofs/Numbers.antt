@@ -1,46 +1,49 @@
 -- The bytes of a number's tree.
-use Rattle.std.proofs.Common.{◌≡◌, ℕ, zero, suc, ◌+◌, ◌-◌, ◌*◌, ◌<◌, [], ◌∷◌, ◌++◌, length, sym, refl, ap, ◌∙◌, append_assoc, arith}
+use Rattle.std.proofs.Common.{◌≡◌, ℕ, zero, suc, ◌+◌, ◌-◌, ◌*◌, ◌<◌, List, [], ◌∷◌, ◌++◌, length, take, drop, set, sym, refl, ap, ◌∙◌, append_assoc, arith, length-set}
+use Rattle.std.proofs.lemmas.List.{take_more_set, drop-set-lt, take-append-drop}
 use Rattle.lang.specs.Bytes.{bytes_of_tree}
-use Rattle.lent.specs.declared.output.Output.{Output}
-use Rattle.lent.specs.Output.{written, Appends, Overflows}
 use Rattle.readable.specs.Syntax.{numeral}
 
 pub length_numeral : (n : ℕ) → length (bytes_of_tree (numeral n)) ≡ 2 * n + 1
 length_numeral zero = refl
 length_numeral (suc n) = omega (arith, length_numeral n)
 
--- i nodes with their leaves are written, of n
-pub record Partly (n i : ℕ) (o₀ o : Output) : Type 0 where
-  pub same_memory : o.bytes.ghost_name ≡ o₀.bytes.ghost_name
-  pub same_room : length o.bytes.now ≡ length o₀.bytes.now
-  pub longer : o.len ≡ o₀.len + 2 * i
-  pub written : written o ++ bytes_of_tree (numeral (n - i)) ≡ written o₀ ++ bytes_of_tree (numeral n)
+-- i nodes with their leaves are written, of n; what is behind the last leaf is as it was
+pub record Partly (n i : ℕ) (old out : List ℕ) : Type 0 where
+  pub long : length out ≡ length old
+  pub written : take (2 * i) out ++ bytes_of_tree (numeral (n - i)) ≡ bytes_of_tree (numeral n)
+  pub behind : drop (2 * n + 1) out ≡ drop (2 * n + 1) old
 
-module _ (n i : ℕ) (o₀ o : Output) (p : Partly n i o₀ o) where
-  pub one_more : (o' : Output) → i < n → Appends o o' (1 ∷ 0 ∷ []) → Partly n (i + 1) o₀ o'
-  one_more o' h a =
+module _ (n i : ℕ) (old out : List ℕ) (p : Partly n i old out) (fits : 2 * n < length old) where
+  pub one_more : i < n → Partly n (i + 1) old (set (set out (2 * i) 1) (2 * i + 1) 0)
+  one_more h =
       let e : n - i ≡ suc (n - (i + 1)) = omega arith in
+      let k : 2 * i + 1 + 1 ≡ 2 * (i + 1) = omega arith in
       let rest = bytes_of_tree (numeral (n - (i + 1))) in
+      let one = set out (2 * i) 1 in
+      let l = length-set out (2 * i) 1 in
+      let a = take_more_set out (2 * i) 1 (omega (arith, p.long)) in
+      let b = take_more_set one (2 * i + 1) 0 (omega (arith, p.long, l)) in
       record {
-        same_memory = a.same_memory ∙ p.same_memory;
-        same_room = a.same_room ∙ p.same_room;
-        longer = omega (arith, a.longer, p.longer);
-        written = ap (λ w. w ++ rest) a.written
-            ∙ append_assoc (written o) (1 ∷ 0 ∷ []) rest
-            ∙ ap (λ m. written o ++ bytes_of_tree (numeral m)) (sym e)
+        long = length-set one (2 * i + 1) 0 ∙ l ∙ p.long;
+        written = ap (λ m. take m (set one (2 * i + 1) 0) ++ rest) (sym k)
+            ∙ ap (λ w. w ++ rest) b
+            ∙ append_assoc (take (2 * i + 1) one) (0 ∷ []) rest
+            ∙ ap (λ w. w ++ 0 ∷ rest) a
+            ∙ append_assoc (take (2 * i) out) (1 ∷ []) (0 ∷ rest)
+            ∙ ap (λ m. take (2 * i) out ++ bytes_of_tree (numeral m)) (sym e)
             ∙ p.written;
+        behind = drop-set-lt (2 * n + 1) one (2 * i + 1) 0 (omega arith) ∙ drop-set-lt (2 * n + 1) out (2 * i) 1 (omega arith) ∙ p.behind;
       }
-
-  pub no_more : i < n → Overflows o (1 ∷ 0 ∷ []) → Overflows o₀ (bytes_of_tree (numeral n))
-  no_more h f = omega (arith, f, p.longer, p.same_room, length_numeral n)
 
   -- and the last leaf
-  pub all_written : (o' : Output) → i ≡ n → Appends o o' (0 ∷ []) → Appends o₀ o' (bytes_of_tree (numeral n))
-  all_written o' end a =
+  pub all_written : i ≡ n → set out (2 * n) 0 ≡ bytes_of_tree (numeral n) ++ drop (2 * n + 1) old
+  all_written end =
       let e : n - i ≡ 0 = omega arith in
-      record {
-        same_memory = a.same_memory ∙ p.same_memory;
-        same_room = a.same_room ∙ p.same_room;
-        longer = omega (arith, a.longer, p.longer, length_numeral n);
-        written = a.written ∙ ap (λ m. written o ++ bytes_of_tree (numeral m)) (sym e) ∙ p.written;
-      }
+      let k : 2 * i ≡ 2 * n = omega arith in
+      let last = set out (2 * n) 0 in
+      let a = take_more_set out (2 * n) 0 (omega (arith, p.long)) in
+      let w = ap (λ m. take m out ++ 0 ∷ []) (sym k) ∙ ap (λ m. take (2 * i) out ++ bytes_of_tree (numeral m)) (sym e) ∙ p.written in
+      sym (take-append-drop (2 * n + 1) last)
+      ∙ ap (λ xs. xs ++ drop (2 * n + 1) last) (a ∙ w)
+      ∙ ap (λ xs. bytes_of_tree (numeral n) ++ xs) (drop-set-lt (2 * n + 1) out (2 * n) 0 (omega arith) ∙ p.behind)

@@ -1,4 +1,4 @@
-ghost use Rattle.std.specs.Prelude.{◌≡◌, ℕ, ◌+◌, ◌<◌, ◌≤◌, true, false, [], ◌∷◌, length, Some, MatchResult};
+ghost use Rattle.std.specs.Prelude.{◌≡◌, ℕ, ◌+◌, ◌*◌, ◌<◌, ◌≤◌, true, false, [], ◌∷◌, ◌++◌, length, drop, Some, MatchResult};
 ghost use Rattle.lang.specs.Bytes.{bytes_of_tree};
 ghost use Rattle.lent.specs.Output.{Appends, Overflows};
 ghost use Rattle.readable.specs.Syntax.{numeral};
@@ -55,14 +55,30 @@ impl From<NoRoom> for Stop {
     }
 }
 
-// The bytes of the tree of n: a node and a leaf n times, and a leaf.
+// The bytes of the tree of n, at the front of a slice: a node and a leaf n times, and a leaf.
+// By hand, two at a time: through `put_all` a byte takes seven times as long.
+fn write_numeral(out: &mut [u8], n: usize)
+    requires { 2 * n < length out.old }
+    ensures { out.new ≡ bytes_of_tree (numeral n) ++ drop (2 * n + 1) out.old }
+{
+    for i in 0..n {
+        out[2 * i] = 1;
+        out[2 * i + 1] = 0;
+    }
+    out[2 * n] = 0;
+}
+
+// The same behind what is written. Whether they fit is seen first, so that a number that is too large costs no more than its digits.
 fn put_numeral(out: &mut Output<'_>, n: usize) -> Result<(), NoRoom>
     ensures { MatchResult result (λ _. Appends out.old out.new (bytes_of_tree (numeral n))) (λ _. Overflows out.old (bytes_of_tree (numeral n))) }
 {
-    for _ in 0..n {
-        out.put_all(&[1, 0])?;
+    let room = out.bytes.len() - out.len;
+    if n >= room - room / 2 {
+        return Err(NoRoom);
     }
-    out.put(0)
+    write_numeral(&mut out.bytes[out.len..], n);
+    out.len += 2 * n + 1;
+    Ok(())
 }
 
 // The stack of what is still to come, the next on top; the bytes written; the digits of a number that has not ended. An explicit stack, since brackets may be nested deeper than the native stack is high.
