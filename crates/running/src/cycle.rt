@@ -13,7 +13,7 @@ use tasks::text::Text;
 use tasks::words::{Given, MAX_ARGS};
 
 // The variables in view, from `base` to `top`, and how many further calls may be opened.
-// It is lent to what is inside: handed on by value it is copied to the stack with each call, and Ackermann's function takes a fifth longer.
+// It is lent to what is inside: handed on by value it is copied to the native stack with each call (docs/DECISIONS.md).
 #[derive(Clone, Copy, Debug, PartialEq)]
 pub struct Frame {
     pub base: usize,

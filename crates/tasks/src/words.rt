@@ -76,7 +76,7 @@ impl Store<'_> {
         ensures { All (λ v. v.0 ≤ self.old.arena.used) given.0 → Held base self.old self.new base (base + n) (map (tree_of self.old) (take n given.0)) }
     {
         let n = n as usize;
-        // over all eight, and a return, so that the loop is unrolled: over `0..n.min(MAX_ARGS)` it is not as rt builds it, and sort takes 8 % longer
+        // over all eight, and a return, so that the loop is unrolled: over `0..n.min(MAX_ARGS)` it is not, as rt builds it
         for (j, v) in given.0.iter().enumerate() {
             if j == n {
                 return;
